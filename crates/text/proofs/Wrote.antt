@@ -1,0 +1,72 @@
+-- Laws of writing: one write after the other, what is kept, and where the bytes stand. Assumes nothing.
+use mathlib.Core.Path.{_≡_, refl, ap, _∙_}
+use mathlib.Core.Bool.{Bool, true, false, cond}
+use mathlib.Core.List.{List, [], _∷_, _++_}
+use Prim.Native.Nat.{ℕ, suc, _+_, _≤_, _<_}
+use native.Mathlib.Nat.{add-zero, zero-add, add-suc, suc-add}
+use native.Mathlib.Numerals.{add-one}
+use native.Mathlib.Omega.{arith}
+use borrow.Author.Tests.{lt-ltb, le-ltb}
+use lib.Dec.{ltb}
+use lib.ListN.{length, set, take, drop, getD, length-set}
+use lib.Seq.{take-suc, sets, sets-eq}
+use Rattle.common.proofs.Tests.{by-test}
+use Rattle.text.specs.Wrote.{Place, store, stores, Wrote}
+
+infixl 60 _⨾_
+stores-append : (p : Place) (x y : List ℕ) → stores (stores p x) y ≡ stores p (x ++ y)
+stores-append p [] y = refl
+stores-append p (b ∷ x) y = stores-append (store p b) x y
+
+-- two writes, the second where the first ended, are one
+pub _⨾_ : {l : List ℕ} {at : ℕ} {x l₁ : List ℕ} {r₁ : ℕ} {y l₂ : List ℕ} {r₂ : ℕ} → Wrote l at x l₁ r₁ → Wrote l₁ r₁ y l₂ r₂ → Wrote l at (x ++ y) l₂ r₂
+_⨾_ {l} {at} {x} {l₁} {r₁} {y} p q =
+    record { after = q .after ∙ ap (λ (z : Place). stores z y) (p .after) ∙ stores-append (record { held = l; next = at }) x y }
+
+-- the same bytes said otherwise
+pub same-as : {l : List ℕ} {at : ℕ} {x y l′ : List ℕ} {r : ℕ} → Wrote l at x l′ r → x ≡ y → Wrote l at y l′ r
+same-as p e = record { after = rw (← e) (p .after) }
+
+-- nothing written
+pub nothing : {l : List ℕ} {at : ℕ} → Wrote l at [] l at
+nothing = record { after = refl }
+
+-- a byte written, and none for want of room
+pub one : {l : List ℕ} {at b : ℕ} → at < length l → Wrote l at (b ∷ []) (set l at b) (at + 1)
+one {l} {at} h = record { after = rw (lt-ltb at (length l)) }
+
+pub full : {l : List ℕ} {at b : ℕ} → length l ≤ at → Wrote l at (b ∷ []) l at
+full {l} {at} h = record { after = rw (le-ltb at (length l)) }
+
+length-store : (p : Place) (b : ℕ) → length (store p b .held) ≡ length (p .held)
+length-store p b = by-test (ltb (p .next) (length (p .held))) (λ e. rw e (length-set (p .held) (p .next) b)) (λ e. rw e)
+
+length-stores : (p : Place) (bs : List ℕ) → length (stores p bs .held) ≡ length (p .held)
+length-stores p [] = refl
+length-stores p (b ∷ bs) = length-stores (store p b) bs ∙ length-store p b
+
+-- what was written to is as long as before
+pub kept : {l : List ℕ} {at : ℕ} {bs l′ : List ℕ} {r : ℕ} → Wrote l at bs l′ r → length l′ ≡ length l
+kept {l} {at} {bs} w = ap (λ (z : Place). length (z .held)) (w .after) ∙ length-stores (record { held = l; next = at }) bs
+
+-- a text's first j bytes and one more, for a loop over it
+pub take-more : (s : List ℕ) (j : ℕ) → j < length s → take (j + 1) s ≡ take j s ++ (getD s j 0 ∷ [])
+take-more s j h = rw (add-one, take-suc s j 0)
+
+-- with room for all of them, the bytes are stored one by one
+stores-room : (l : List ℕ) (at : ℕ) (bs : List ℕ) → at + length bs ≤ length l
+    → stores (record { held = l; next = at }) bs ≡ record { held = sets l at bs; next = at + length bs }
+stores-room l at [] h = rw add-zero
+stores-room l at (b ∷ bs) h =
+    let room : at < length l = omega arith in
+    let more : suc at + length bs ≤ length (set l at b) = rw length-set (omega arith) in
+    rw (lt-ltb at (length l), add-one, add-suc, ← suc-add) (stores-room (set l at b) (suc at) bs more)
+
+-- what was written from the start, with room for it: the bytes, behind them what was there, and the answer is their number
+pub lies : {l bs l′ : List ℕ} {r : ℕ} → Wrote l 0 bs l′ r → length bs ≤ length l → (l′ ≡ bs ++ drop (length bs) l) × (r ≡ length bs)
+lies {l} {bs} w h =
+    let room : 0 + length bs ≤ length l = omega arith in
+    let e = w .after ∙ stores-room l 0 bs room in (
+      ap (λ (z : Place). z .held) e ∙ sets-eq bs l 0 room ∙ ap (λ (n : ℕ). bs ++ drop n l) (zero-add (length bs)),
+      ap (λ (z : Place). z .next) e ∙ zero-add (length bs),
+    )
