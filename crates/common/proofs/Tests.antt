@@ -1,7 +1,7 @@
 -- Tests that antt computes: the two cases of a test, and a test of each number below a bound. Assumes nothing.
 use mathlib.Core.Path.{_≡_, refl, sym}
 use mathlib.Core.Bool.{Bool, true, false, _&&_, not, true≢false}
-use Prim.Native.Nat.{ℕ, zero, suc, _<_}
+use Prim.Native.Nat.{ℕ, zero, suc, _≤_, _<_, zero-le}
 use native.Mathlib.Nat.{not-suc-le-zero}
 use native.Mathlib.Omega.{arith}
 use lib.Dec.{ltb}
@@ -38,3 +38,12 @@ at-not f n e k h =
     by-test (f k)
     (λ t. let z : not (f k) ≡ true = at (λ k. not (f k)) n e k h in absurd (true≢false (sym (rw t at z))))
     (λ t. t)
+
+-- k is none of the numbers below n, as the last arm of a match has it
+abbrev pub Missed : ℕ → ℕ → Type 0
+Missed k zero = Unit {0}
+Missed k (suc n) = Missed k n × (k ≡ n → ⊥)
+
+pub missed : (k n : ℕ) → Missed k n → n ≤ k
+missed k zero m = zero-le
+missed k (suc n) (m, f) = let h = missed k n m in omega arith

@@ -1,0 +1,4 @@
+pub mod Names
+pub mod Alu
+pub mod Arm
+pub mod Pieces

@@ -1,0 +1,43 @@
+// Writers of a word's fields, for ARM and Thumb lines.
+ghost use mathlib.Core.Path.{_≡_};
+ghost use Rattle.text.specs.Wrote.{Wrote};
+ghost use Rattle.arm7tdmi.specs.Pieces.{regAt, condAt, either, ifSet};
+use crate::arm::put_cond;
+use crate::bit::bit;
+use crate::bit::bit_range;
+use crate::put_reg;
+use text::put::put_text;
+
+// The name of the register in bits a up to b.
+pub fn put_reg_at(buf: &mut [u8], at: usize, raw: u32, a: u32, b: u32) -> usize
+    ensures { λ r. ⌜ Wrote (now (buf .entry)) at (regAt raw a b) (now (buf .exit)) r ⌝ }
+{
+    put_reg(buf, at, bit_range(raw, a, b))
+}
+
+// The name of the condition in bits a up to b.
+pub fn put_cond_at(buf: &mut [u8], at: usize, raw: u32, a: u32, b: u32) -> usize
+    ensures { λ r. ⌜ Wrote (now (buf .entry)) at (condAt raw a b) (now (buf .exit)) r ⌝ }
+{
+    put_cond(buf, at, bit_range(raw, a, b))
+}
+
+// A text where bit n is set.
+pub fn put_if(buf: &mut [u8], at: usize, raw: u32, n: u32, set: &[u8]) -> usize
+    ensures { λ r. ⌜ Wrote (now (buf .entry)) at (ifSet raw n (now (set .entry))) (now (buf .exit)) r ⌝ }
+{
+    if bit(raw, n) {
+        return put_text(buf, at, set);
+    }
+    at
+}
+
+// One text where bit n is set, and another where it is clear.
+pub fn put_either(buf: &mut [u8], at: usize, raw: u32, n: u32, set: &[u8], clear: &[u8]) -> usize
+    ensures { λ r. ⌜ Wrote (now (buf .entry)) at (either raw n (now (set .entry)) (now (clear .entry))) (now (buf .exit)) r ⌝ }
+{
+    if bit(raw, n) {
+        return put_text(buf, at, set);
+    }
+    put_text(buf, at, clear)
+}
