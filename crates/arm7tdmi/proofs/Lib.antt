@@ -1,2 +1,3 @@
 pub mod Rotate
 pub mod Names
+pub mod Rows

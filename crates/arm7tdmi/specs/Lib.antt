@@ -2,3 +2,4 @@ pub mod Names
 pub mod Alu
 pub mod Arm
 pub mod Pieces
+pub mod Kinds

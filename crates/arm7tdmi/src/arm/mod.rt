@@ -1,9 +1,12 @@
 // ARM words.
 ghost use mathlib.Core.Path.{_≡_};
-ghost use Prim.Native.Nat.{_≤_};
+ghost use Prim.Native.Nat.{_≤_, _<_};
 ghost use Rattle.text.specs.Wrote.{Wrote};
 ghost use Rattle.arm7tdmi.specs.Names.{condText, condNamed};
+ghost use Rattle.arm7tdmi.specs.Kinds.{armRowAt, armFormat, armNumber};
 ghost use Rattle.arm7tdmi.specs.Arm.{armCond, armCondNumber};
+use crate::Form;
+use crate::memory::Addr;
 use text::put::part;
 use text::put::put_text;
 use text::read::pack;
@@ -110,4 +113,126 @@ pub fn read_cond(s: &[u8]) -> u32
     ensures { λ r. ⌜ (r ≡ condNamed (now (s .entry))) × (r ≤ 15) ⌝ }
 {
     position(&COND_NAMES, pack(s)) as u32
+}
+
+// The kinds of ARM words.
+pub enum ArmFormat {
+    BranchExchange,
+    BranchLink,
+    SoftwareInterrupt,
+    Multiply,
+    MultiplyLong,
+    SingleDataTransfer,
+    HalfwordDataTransferRegOffset,
+    HalfwordDataTransferImmediateOffset,
+    DataProcessing,
+    BlockDataTransfer,
+    SingleDataSwap,
+    MoveFromStatus,
+    MoveToStatus,
+    MoveToFlags,
+    Undefined,
+}
+
+impl ArmFormat {
+    // The kind's number, in the order of the enum.
+    pub fn number(self) -> u32
+        ensures { λ r. ⌜ r ≡ armNumber self ⌝ }
+    {
+        match self {
+            ArmFormat::BranchExchange => 0,
+            ArmFormat::BranchLink => 1,
+            ArmFormat::SoftwareInterrupt => 2,
+            ArmFormat::Multiply => 3,
+            ArmFormat::MultiplyLong => 4,
+            ArmFormat::SingleDataTransfer => 5,
+            ArmFormat::HalfwordDataTransferRegOffset => 6,
+            ArmFormat::HalfwordDataTransferImmediateOffset => 7,
+            ArmFormat::DataProcessing => 8,
+            ArmFormat::BlockDataTransfer => 9,
+            ArmFormat::SingleDataSwap => 10,
+            ArmFormat::MoveFromStatus => 11,
+            ArmFormat::MoveToStatus => 12,
+            ArmFormat::MoveToFlags => 13,
+            ArmFormat::Undefined => 14,
+        }
+    }
+}
+
+// Mask, value and kind.
+pub struct ArmRow(pub u32, pub u32, pub ArmFormat);
+
+// The rows in the order in which they are tried, as the bench has them.
+const ARM_ROWS: [ArmRow; 15] = [
+    ArmRow(0x0fff_fff0, 0x012f_ff10, ArmFormat::BranchExchange),
+    ArmRow(0x0e00_0000, 0x0a00_0000, ArmFormat::BranchLink),
+    ArmRow(0x0e00_0010, 0x0600_0000, ArmFormat::Undefined),
+    ArmRow(0x0fb0_0ff0, 0x0100_0090, ArmFormat::SingleDataSwap),
+    ArmRow(0x0fc0_00f0, 0x0000_0090, ArmFormat::Multiply),
+    ArmRow(0x0f80_00f0, 0x0080_0090, ArmFormat::MultiplyLong),
+    ArmRow(0x0fbf_0fff, 0x010f_0000, ArmFormat::MoveFromStatus),
+    ArmRow(0x0fbf_fff0, 0x0129_f000, ArmFormat::MoveToStatus),
+    ArmRow(0x0dbf_f000, 0x0128_f000, ArmFormat::MoveToFlags),
+    ArmRow(0x0c00_0000, 0x0400_0000, ArmFormat::SingleDataTransfer),
+    ArmRow(0x0e40_0f90, 0x0000_0090, ArmFormat::HalfwordDataTransferRegOffset),
+    ArmRow(0x0e40_0090, 0x0040_0090, ArmFormat::HalfwordDataTransferImmediateOffset),
+    ArmRow(0x0e00_0000, 0x0800_0000, ArmFormat::BlockDataTransfer),
+    ArmRow(0x0f00_0000, 0x0f00_0000, ArmFormat::SoftwareInterrupt),
+    ArmRow(0x0c00_0000, 0x0000_0000, ArmFormat::DataProcessing),
+];
+
+// Row i of the sheet, which differs in one.
+fn sheet_row(i: usize) -> ArmRow
+    requires { ⌜ i < 15 ⌝ }
+    ensures { λ r. ⌜ r ≡ armRowAt Form.Sheet i ⌝ }
+{
+    if i == 2 {
+        return ArmRow(0x0e00_0010, 0x0600_0010, ArmFormat::Undefined);
+    }
+    ARM_ROWS[i]
+}
+
+// Row i of a form.
+fn arm_row(form: Form, i: usize) -> ArmRow
+    requires { ⌜ i < 15 ⌝ }
+    ensures { λ r. ⌜ r ≡ armRowAt form i ⌝ }
+{
+    match form {
+        Form::Bench => ARM_ROWS[i],
+        Form::Sheet => sheet_row(i),
+    }
+}
+
+// The kind of a word: the first row whose mask and value it meets.
+pub fn arm_format(form: Form, raw: u32) -> ArmFormat
+    ensures { λ r. ⌜ r ≡ armFormat form raw ⌝ }
+{
+    let mut i: usize = 0;
+    while i < 15 {
+        let row = arm_row(form, i);
+        if raw & row.0 == row.1 {
+            return row.2;
+        }
+        i += 1;
+    }
+    ArmFormat::Undefined
+}
+
+// A decoded word.
+pub struct ArmInstruction {
+    pub fmt: ArmFormat,
+    pub raw: u32,
+    pub pc: Addr,
+}
+
+impl ArmInstruction {
+    pub fn decode(form: Form, raw: u32, addr: Addr) -> Self
+        ensures { λ r. ⌜ r ≡ record { fmt = armFormat form raw; raw = raw; pc = addr } ⌝ }
+    {
+        ArmInstruction {
+            fmt: arm_format(form, raw),
+            raw,
+            pc: addr,
+        }
+    }
 }
