@@ -1,5 +1,6 @@
 pub mod Names
 pub mod Alu
+pub mod Signed
 pub mod Arm
 pub mod Pieces
 pub mod Kinds

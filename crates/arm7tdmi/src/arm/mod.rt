@@ -1,11 +1,22 @@
 // ARM words.
 ghost use mathlib.Core.Path.{_≡_};
+ghost use mathlib.Core.Bool.{cond as boolCond};
 ghost use Prim.Native.Nat.{_≤_, _<_};
 ghost use Rattle.text.specs.Wrote.{Wrote};
 ghost use Rattle.arm7tdmi.specs.Names.{condText, condNamed};
 ghost use Rattle.arm7tdmi.specs.Kinds.{armRowAt, armFormat, armNumber};
-ghost use Rattle.arm7tdmi.specs.Arm.{armCond, armCondNumber};
+ghost use Rattle.common.specs.Bits.{bit, bitRange};
+ghost use Rattle.arm7tdmi.specs.Alu.{aluOpCode};
+ghost use Rattle.arm7tdmi.specs.Arm.{armCond, armCondNumber, halfwordType, branchOffset, bsOp, shiftRegBy, operand2, addedOf, signedOffset, ldrStrOffset, ldrStrHsImmOffset, ldrStrHsRegOffset};
 use crate::Form;
+use crate::alu::AluOpCode;
+use crate::alu::BarrelShiftOpCode;
+use crate::alu::BarrelShifterValue;
+use crate::alu::ShiftRegisterBy;
+use crate::alu::ShiftedRegister;
+use crate::alu::Sign;
+use crate::bit::bit;
+use crate::bit::bit_range;
 use crate::memory::Addr;
 use text::put::part;
 use text::put::put_text;
@@ -174,8 +185,16 @@ const ARM_ROWS: [ArmRow; 15] = [
     ArmRow(0x0fbf_fff0, 0x0129_f000, ArmFormat::MoveToStatus),
     ArmRow(0x0dbf_f000, 0x0128_f000, ArmFormat::MoveToFlags),
     ArmRow(0x0c00_0000, 0x0400_0000, ArmFormat::SingleDataTransfer),
-    ArmRow(0x0e40_0f90, 0x0000_0090, ArmFormat::HalfwordDataTransferRegOffset),
-    ArmRow(0x0e40_0090, 0x0040_0090, ArmFormat::HalfwordDataTransferImmediateOffset),
+    ArmRow(
+        0x0e40_0f90,
+        0x0000_0090,
+        ArmFormat::HalfwordDataTransferRegOffset,
+    ),
+    ArmRow(
+        0x0e40_0090,
+        0x0040_0090,
+        ArmFormat::HalfwordDataTransferImmediateOffset,
+    ),
     ArmRow(0x0e00_0000, 0x0800_0000, ArmFormat::BlockDataTransfer),
     ArmRow(0x0f00_0000, 0x0f00_0000, ArmFormat::SoftwareInterrupt),
     ArmRow(0x0c00_0000, 0x0000_0000, ArmFormat::DataProcessing),
@@ -235,4 +254,244 @@ impl ArmInstruction {
             pc: addr,
         }
     }
+}
+
+// Fields, under the Rust's names.
+
+pub fn cond(raw: u32) -> ArmCond
+    ensures { λ r. ⌜ r ≡ armCond (bitRange raw 28 32) ⌝ }
+{
+    ArmCond::from_u32(bit_range(raw, 28, 32))
+}
+
+pub fn opcode(raw: u32) -> AluOpCode
+    ensures { λ r. ⌜ r ≡ aluOpCode (bitRange raw 21 25) ⌝ }
+{
+    AluOpCode::from_u32(bit_range(raw, 21, 25))
+}
+
+pub fn rm(raw: u32) -> u32
+    ensures { λ r. ⌜ r ≡ bitRange raw 0 4 ⌝ }
+{
+    bit_range(raw, 0, 4)
+}
+
+pub fn rs(raw: u32) -> u32
+    ensures { λ r. ⌜ r ≡ bitRange raw 8 12 ⌝ }
+{
+    bit_range(raw, 8, 12)
+}
+
+pub fn rd_lo(raw: u32) -> u32
+    ensures { λ r. ⌜ r ≡ bitRange raw 12 16 ⌝ }
+{
+    bit_range(raw, 12, 16)
+}
+
+pub fn rd_hi(raw: u32) -> u32
+    ensures { λ r. ⌜ r ≡ bitRange raw 16 20 ⌝ }
+{
+    bit_range(raw, 16, 20)
+}
+
+pub fn load_flag(raw: u32) -> bool
+    ensures { λ r. ⌜ r ≡ bit raw 20 ⌝ }
+{
+    bit(raw, 20)
+}
+
+pub fn set_cond_flag(raw: u32) -> bool
+    ensures { λ r. ⌜ r ≡ bit raw 20 ⌝ }
+{
+    bit(raw, 20)
+}
+
+pub fn write_back_flag(raw: u32) -> bool
+    ensures { λ r. ⌜ r ≡ bit raw 21 ⌝ }
+{
+    bit(raw, 21)
+}
+
+pub fn accumulate_flag(raw: u32) -> bool
+    ensures { λ r. ⌜ r ≡ bit raw 21 ⌝ }
+{
+    bit(raw, 21)
+}
+
+pub fn u_flag(raw: u32) -> bool
+    ensures { λ r. ⌜ r ≡ bit raw 22 ⌝ }
+{
+    bit(raw, 22)
+}
+
+pub fn psr_and_force_user_flag(raw: u32) -> bool
+    ensures { λ r. ⌜ r ≡ bit raw 22 ⌝ }
+{
+    bit(raw, 22)
+}
+
+pub fn spsr_flag(raw: u32) -> bool
+    ensures { λ r. ⌜ r ≡ bit raw 22 ⌝ }
+{
+    bit(raw, 22)
+}
+
+pub fn add_offset_flag(raw: u32) -> bool
+    ensures { λ r. ⌜ r ≡ bit raw 23 ⌝ }
+{
+    bit(raw, 23)
+}
+
+pub fn pre_index_flag(raw: u32) -> bool
+    ensures { λ r. ⌜ r ≡ bit raw 24 ⌝ }
+{
+    bit(raw, 24)
+}
+
+pub fn link_flag(raw: u32) -> bool
+    ensures { λ r. ⌜ r ≡ bit raw 24 ⌝ }
+{
+    bit(raw, 24)
+}
+
+// The size of a transfer in bytes, by bit 22.
+pub fn transfer_size(raw: u32) -> u32
+    ensures { λ r. ⌜ r ≡ boolCond (bit raw 22) 1 4 ⌝ }
+{
+    if bit(raw, 22) {
+        return 1;
+    }
+    4
+}
+
+pub enum ArmHalfwordTransferType {
+    Invalid,
+    UnsignedHalfwords,
+    SignedByte,
+    SignedHalfwords,
+}
+
+pub fn halfword_data_transfer_type(raw: u32) -> ArmHalfwordTransferType
+    ensures { λ r. ⌜ r ≡ halfwordType raw ⌝ }
+{
+    let k = bit_range(raw, 5, 7);
+    match k {
+        1 => ArmHalfwordTransferType::UnsignedHalfwords,
+        2 => ArmHalfwordTransferType::SignedByte,
+        3 => ArmHalfwordTransferType::SignedHalfwords,
+        _ => ArmHalfwordTransferType::Invalid,
+    }
+}
+
+// The sign-extended 24-bit field times four: by negation, so that no cast loses a bit, and a shift that keeps the sign.
+pub fn branch_offset(raw: u32) -> i32
+    ensures { λ r. ⌜ r ≡ branchOffset raw ⌝ }
+{
+    let field = bit_range(raw, 0, 24);
+    if field < 0x0080_0000 {
+        ((field * 256) as i32) >> 6
+    } else {
+        let left = (0x0100_0000 - field) as i32;
+        (-left * 256) >> 6
+    }
+}
+
+pub fn get_bs_op(raw: u32) -> BarrelShiftOpCode
+    ensures { λ r. ⌜ r ≡ bsOp raw ⌝ }
+{
+    BarrelShiftOpCode::from_u32(bit_range(raw, 5, 7))
+}
+
+pub fn get_shift_reg_by(raw: u32) -> ShiftRegisterBy
+    ensures { λ r. ⌜ r ≡ shiftRegBy raw ⌝ }
+{
+    if bit(raw, 4) {
+        return ShiftRegisterBy::ByRegister(bit_range(raw, 8, 12));
+    }
+    ShiftRegisterBy::ByAmount(bit_range(raw, 7, 12))
+}
+
+fn added(raw: u32) -> Sign
+    ensures { λ r. ⌜ r ≡ addedOf raw ⌝ }
+{
+    if bit(raw, 23) {
+        return Sign::Added;
+    }
+    Sign::Subtracted
+}
+
+fn shifted_register(raw: u32, sign: Sign) -> ShiftedRegister
+    ensures { λ r. ⌜ r ≡ record { reg = bitRange raw 0 4; «shift_by» = shiftRegBy raw; «bs_op» = bsOp raw; added = sign } ⌝ }
+{
+    ShiftedRegister {
+        reg: bit_range(raw, 0, 4),
+        shift_by: get_shift_reg_by(raw),
+        bs_op: get_bs_op(raw),
+        added: sign,
+    }
+}
+
+// An immediate offset as a number of 32 bits: with U clear, its negative.
+fn signed_offset(raw: u32, n: u32) -> u32
+    ensures { λ r. ⌜ r ≡ signedOffset raw n ⌝ }
+{
+    if bit(raw, 23) {
+        return n;
+    }
+    std::num::wrapping_sub_u32(0, n)
+}
+
+// The offset of a transfer.
+pub fn ldr_str_offset(raw: u32) -> BarrelShifterValue
+    ensures { λ r. ⌜ r ≡ ldrStrOffset raw ⌝ }
+{
+    if bit(raw, 25) {
+        return BarrelShifterValue::ShiftedRegister(shifted_register(raw, added(raw)));
+    }
+    BarrelShifterValue::ImmediateValue(signed_offset(raw, bit_range(raw, 0, 12)))
+}
+
+pub fn ldr_str_hs_imm_offset(raw: u32) -> BarrelShifterValue
+    ensures { λ r. ⌜ r ≡ ldrStrHsImmOffset raw ⌝ }
+{
+    let offset8 = bit_range(raw, 8, 12) * 16 + bit_range(raw, 0, 4);
+    BarrelShifterValue::ImmediateValue(signed_offset(raw, offset8))
+}
+
+pub fn ldr_str_hs_reg_offset(raw: u32) -> BarrelShifterValue
+    ensures { λ r. ⌜ r ≡ ldrStrHsRegOffset raw ⌝ }
+{
+    let sign = added(raw);
+    let register = ShiftedRegister {
+        reg: bit_range(raw, 0, 4),
+        shift_by: ShiftRegisterBy::ByAmount(0),
+        bs_op: BarrelShiftOpCode::LSL,
+        added: sign,
+    };
+    BarrelShifterValue::ShiftedRegister(register)
+}
+
+// The second operand of data processing.
+pub fn operand2(raw: u32) -> BarrelShifterValue
+    ensures { λ r. ⌜ r ≡ operand2 raw ⌝ }
+{
+    if bit(raw, 25) {
+        return BarrelShifterValue::RotatedImmediate(
+            bit_range(raw, 0, 8),
+            2 * bit_range(raw, 8, 12),
+        );
+    }
+    BarrelShifterValue::ShiftedRegister(shifted_register(raw, Sign::Unsaid))
+}
+
+pub fn register_list(raw: u32) -> u32
+    ensures { λ r. ⌜ r ≡ bitRange raw 0 16 ⌝ }
+{
+    bit_range(raw, 0, 16)
+}
+
+pub fn swi_comment(raw: u32) -> u32
+    ensures { λ r. ⌜ r ≡ bitRange raw 0 24 ⌝ }
+{
+    bit_range(raw, 0, 24)
 }

@@ -2,7 +2,6 @@
 ghost use mathlib.Core.Path.{_≡_};
 ghost use Prim.Native.Nat.{_<_};
 ghost use Rattle.arm7tdmi.specs.Kinds.{thumbRowAt, thumbFormat, thumbNumber};
-
 use crate::Form;
 use crate::memory::Addr;
 
