@@ -1,4 +1,4 @@
 pub mod Rotate
 pub mod Names
 pub mod Rows
-pub mod Signed
+pub mod Integers

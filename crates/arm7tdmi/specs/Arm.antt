@@ -6,7 +6,7 @@ use lib.IntN.{ℤ}
 use lib.ListN.{getD}
 use Rattle.common.specs.Bits.{bit, bitRange}
 use Rattle.arm7tdmi.specs.Alu.{barrelShiftOpCode}
-use Rattle.arm7tdmi.specs.Signed.{signedTimes}
+use Rattle.arm7tdmi.specs.Signed.{signedTimes, extended, moved}
 use Rattle.arm7tdmi.specs.declared.alu.BarrelShiftOpCode.{BarrelShiftOpCode}
 use Rattle.arm7tdmi.specs.declared.alu.BarrelShiftOpCode.the-variants as Shift
 use Rattle.arm7tdmi.specs.declared.alu.ShiftRegisterBy.{ShiftRegisterBy}
@@ -56,6 +56,14 @@ halfwordType raw = getD halfwordTypes (bitRange raw 5 7) Half.Invalid
 -- the sign-extended 24-bit field times four
 unfoldable pub branchOffset : ℕ → ℤ
 branchOffset raw = signedTimes 24 4 (bitRange raw 0 24)
+
+-- where a branch goes: "the address plus the sign-extended 24-bit field times four plus 8"
+unfoldable pub branchTarget : ℕ → ℕ → ℕ
+branchTarget pc raw = moved (moved pc 8) (extended 24 4 (bitRange raw 0 24))
+
+-- where an offset from pc points: "adds address + 8 when Rn is pc"
+unfoldable pub pcRelative : ℕ → ℕ → ℕ
+pcRelative pc n = moved (moved pc 8) n
 
 -- how a register is shifted: bit 4 says by what
 unfoldable pub bsOp : ℕ → BarrelShiftOpCode

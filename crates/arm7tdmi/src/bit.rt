@@ -1,14 +1,8 @@
 // The Rust's `bit(n)` and `bit_range(a..b)`, for words of 16 and of 32 bits.
 ghost use mathlib.Core.Path.{_≡_};
-ghost use Prim.Native.Nat.{_/_, _%_, _^_, _<_};
+ghost use Prim.Native.Nat.{_/_, _%_, _^_};
 ghost use Rattle.common.specs.Bits.{bit, bitRange};
-
-fn pow2(n: u32) -> u32
-    requires { ⌜ n < 32 ⌝ }
-    ensures { λ r. ⌜ r ≡ 2 ^ n ⌝ }
-{
-    1 << n
-}
+use crate::signed::pow2;
 
 // The bits from n on.
 fn high(raw: u32, n: u32) -> u32

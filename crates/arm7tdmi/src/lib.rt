@@ -14,6 +14,7 @@ pub mod bit;
 pub mod disass;
 pub mod memory;
 pub mod psr;
+mod signed;
 pub mod thumb;
 
 // Which line is meant: the bench viewer's, or the data sheet's.

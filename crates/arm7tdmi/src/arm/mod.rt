@@ -7,7 +7,7 @@ ghost use Rattle.arm7tdmi.specs.Names.{condText, condNamed};
 ghost use Rattle.arm7tdmi.specs.Kinds.{armRowAt, armFormat, armNumber};
 ghost use Rattle.common.specs.Bits.{bit, bitRange};
 ghost use Rattle.arm7tdmi.specs.Alu.{aluOpCode};
-ghost use Rattle.arm7tdmi.specs.Arm.{armCond, armCondNumber, halfwordType, branchOffset, bsOp, shiftRegBy, operand2, addedOf, signedOffset, ldrStrOffset, ldrStrHsImmOffset, ldrStrHsRegOffset};
+ghost use Rattle.arm7tdmi.specs.Arm.{armCond, armCondNumber, halfwordType, branchOffset, branchTarget, pcRelative, bsOp, shiftRegBy, operand2, addedOf, signedOffset, ldrStrOffset, ldrStrHsImmOffset, ldrStrHsRegOffset};
 use crate::Form;
 use crate::alu::AluOpCode;
 use crate::alu::BarrelShiftOpCode;
@@ -18,6 +18,7 @@ use crate::alu::Sign;
 use crate::bit::bit;
 use crate::bit::bit_range;
 use crate::memory::Addr;
+use crate::signed::move_by;
 use text::put::part;
 use text::put::put_text;
 use text::read::pack;
@@ -394,6 +395,22 @@ pub fn branch_offset(raw: u32) -> i32
         let left = (0x0100_0000 - field) as i32;
         (-left * 256) >> 6
     }
+}
+
+// Where a branch at an address goes.
+pub fn branch_target(pc: Addr, raw: u32) -> Addr
+    ensures { λ r. ⌜ r ≡ branchTarget pc raw ⌝ }
+{
+    let ahead = std::num::wrapping_add_u32(pc, 8);
+    move_by(ahead, branch_offset(raw))
+}
+
+// Where an offset from the pc of an instruction at an address points.
+pub fn pc_relative(pc: Addr, n: u32) -> Addr
+    ensures { λ r. ⌜ r ≡ pcRelative pc n ⌝ }
+{
+    let ahead = std::num::wrapping_add_u32(pc, 8);
+    std::num::wrapping_add_u32(ahead, n)
 }
 
 pub fn get_bs_op(raw: u32) -> BarrelShiftOpCode

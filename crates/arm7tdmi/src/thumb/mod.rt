@@ -1,9 +1,20 @@
 // Thumb words.
 ghost use mathlib.Core.Path.{_≡_};
 ghost use Prim.Native.Nat.{_<_};
+ghost use Rattle.common.specs.Bits.{bit, bitRange};
+ghost use Rattle.arm7tdmi.specs.Alu.{barrelShiftOpCode};
+ghost use Rattle.arm7tdmi.specs.Arm.{armCond};
 ghost use Rattle.arm7tdmi.specs.Kinds.{thumbRowAt, thumbFormat, thumbNumber};
+ghost use Rattle.arm7tdmi.specs.Thumb.{opFormat3, opFormat5, thumbAluOp, bcondOffset, branchOffset11, callOffset, bcondTarget, branchTarget, pcLoadAddress, callHalf, word8, sword7};
 use crate::Form;
+use crate::alu::BarrelShiftOpCode;
+use crate::arm::ArmCond;
+use crate::bit::bit;
+use crate::bit::bit_range;
 use crate::memory::Addr;
+use crate::signed::move_by;
+use crate::signed::negative;
+use crate::signed::signed_times;
 
 // The kinds of Thumb words.
 pub enum ThumbFormat {
@@ -140,4 +151,261 @@ impl ThumbInstruction {
             pc: addr,
         }
     }
+}
+
+pub enum OpFormat3 {
+    MOV,
+    CMP,
+    ADD,
+    SUB,
+}
+
+impl OpFormat3 {
+    // The case of a number, by its lowest two bits.
+    pub fn from_u32(n: u32) -> Self
+        ensures { λ r. ⌜ r ≡ opFormat3 n ⌝ }
+    {
+        let k = n % 4;
+        match k {
+            0 => OpFormat3::MOV,
+            1 => OpFormat3::CMP,
+            2 => OpFormat3::ADD,
+            _ => OpFormat3::SUB,
+        }
+    }
+}
+
+pub enum OpFormat5 {
+    ADD,
+    CMP,
+    MOV,
+    BX,
+}
+
+impl OpFormat5 {
+    // The case of a number, by its lowest two bits.
+    pub fn from_u32(n: u32) -> Self
+        ensures { λ r. ⌜ r ≡ opFormat5 n ⌝ }
+    {
+        let k = n % 4;
+        match k {
+            0 => OpFormat5::ADD,
+            1 => OpFormat5::CMP,
+            2 => OpFormat5::MOV,
+            _ => OpFormat5::BX,
+        }
+    }
+}
+
+pub enum ThumbAluOps {
+    AND,
+    EOR,
+    LSL,
+    LSR,
+    ASR,
+    ADC,
+    SBC,
+    ROR,
+    TST,
+    NEG,
+    CMP,
+    CMN,
+    ORR,
+    MUL,
+    BIC,
+    MVN,
+}
+
+impl ThumbAluOps {
+    // The case of a number, by its lowest four bits.
+    pub fn from_u32(n: u32) -> Self
+        ensures { λ r. ⌜ r ≡ thumbAluOp n ⌝ }
+    {
+        let k = n % 16;
+        match k {
+            0 => ThumbAluOps::AND,
+            1 => ThumbAluOps::EOR,
+            2 => ThumbAluOps::LSL,
+            3 => ThumbAluOps::LSR,
+            4 => ThumbAluOps::ASR,
+            5 => ThumbAluOps::ADC,
+            6 => ThumbAluOps::SBC,
+            7 => ThumbAluOps::ROR,
+            8 => ThumbAluOps::TST,
+            9 => ThumbAluOps::NEG,
+            10 => ThumbAluOps::CMP,
+            11 => ThumbAluOps::CMN,
+            12 => ThumbAluOps::ORR,
+            13 => ThumbAluOps::MUL,
+            14 => ThumbAluOps::BIC,
+            _ => ThumbAluOps::MVN,
+        }
+    }
+}
+
+// Fields, under the Rust's names. A word of 16 bits is a number of 32 here.
+
+pub fn rs(raw: u32) -> u32
+    ensures { λ r. ⌜ r ≡ bitRange raw 3 6 ⌝ }
+{
+    bit_range(raw, 3, 6)
+}
+
+pub fn rb(raw: u32) -> u32
+    ensures { λ r. ⌜ r ≡ bitRange raw 3 6 ⌝ }
+{
+    bit_range(raw, 3, 6)
+}
+
+pub fn ro(raw: u32) -> u32
+    ensures { λ r. ⌜ r ≡ bitRange raw 6 9 ⌝ }
+{
+    bit_range(raw, 6, 9)
+}
+
+pub fn rn(raw: u32) -> u32
+    ensures { λ r. ⌜ r ≡ bitRange raw 6 9 ⌝ }
+{
+    bit_range(raw, 6, 9)
+}
+
+pub fn offset5(raw: u32) -> u32
+    ensures { λ r. ⌜ r ≡ bitRange raw 6 11 ⌝ }
+{
+    bit_range(raw, 6, 11)
+}
+
+pub fn offset11(raw: u32) -> u32
+    ensures { λ r. ⌜ r ≡ bitRange raw 0 11 ⌝ }
+{
+    bit_range(raw, 0, 11)
+}
+
+pub fn register_list(raw: u32) -> u32
+    ensures { λ r. ⌜ r ≡ bitRange raw 0 8 ⌝ }
+{
+    bit_range(raw, 0, 8)
+}
+
+pub fn is_load(raw: u32) -> bool
+    ensures { λ r. ⌜ r ≡ bit raw 11 ⌝ }
+{
+    bit(raw, 11)
+}
+
+pub fn is_subtract(raw: u32) -> bool
+    ensures { λ r. ⌜ r ≡ bit raw 9 ⌝ }
+{
+    bit(raw, 9)
+}
+
+pub fn is_immediate_operand(raw: u32) -> bool
+    ensures { λ r. ⌜ r ≡ bit raw 10 ⌝ }
+{
+    bit(raw, 10)
+}
+
+pub fn format1_op(raw: u32) -> BarrelShiftOpCode
+    ensures { λ r. ⌜ r ≡ barrelShiftOpCode (bitRange raw 11 13) ⌝ }
+{
+    BarrelShiftOpCode::from_u32(bit_range(raw, 11, 13))
+}
+
+pub fn format3_op(raw: u32) -> OpFormat3
+    ensures { λ r. ⌜ r ≡ opFormat3 (bitRange raw 11 13) ⌝ }
+{
+    OpFormat3::from_u32(bit_range(raw, 11, 13))
+}
+
+pub fn format5_op(raw: u32) -> OpFormat5
+    ensures { λ r. ⌜ r ≡ opFormat5 (bitRange raw 8 10) ⌝ }
+{
+    OpFormat5::from_u32(bit_range(raw, 8, 10))
+}
+
+pub fn format4_alu_op(raw: u32) -> ThumbAluOps
+    ensures { λ r. ⌜ r ≡ thumbAluOp (bitRange raw 6 10) ⌝ }
+{
+    ThumbAluOps::from_u32(bit_range(raw, 6, 10))
+}
+
+pub fn cond(raw: u32) -> ArmCond
+    ensures { λ r. ⌜ r ≡ armCond (bitRange raw 8 12) ⌝ }
+{
+    ArmCond::from_u32(bit_range(raw, 8, 12))
+}
+
+// The sign-extended 8-bit field times two.
+pub fn bcond_offset(raw: u32) -> i32
+    ensures { λ r. ⌜ r ≡ bcondOffset raw ⌝ }
+{
+    signed_times(8, 2, bit_range(raw, 0, 8))
+}
+
+// The sign-extended 11-bit field times two.
+pub fn branch_offset(raw: u32) -> i32
+    ensures { λ r. ⌜ r ≡ branchOffset11 raw ⌝ }
+{
+    signed_times(11, 2, offset11(raw))
+}
+
+// The sign-extended 11-bit field of a first call half times 4096.
+pub fn call_offset(raw: u32) -> i32
+    ensures { λ r. ⌜ r ≡ callOffset raw ⌝ }
+{
+    signed_times(11, 4096, offset11(raw))
+}
+
+// Four times the lowest eight bits.
+pub fn word8(raw: u32) -> u32
+    ensures { λ r. ⌜ r ≡ word8 raw ⌝ }
+{
+    bit_range(raw, 0, 8) * 4
+}
+
+// Four times the lowest seven bits, with bit 7 as the sign.
+pub fn sword7(raw: u32) -> i32
+    ensures { λ r. ⌜ r ≡ sword7 raw ⌝ }
+{
+    let size = bit_range(raw, 0, 7) * 4;
+    if bit(raw, 7) {
+        negative(size)
+    } else {
+        size as i32
+    }
+}
+
+// Where a conditional branch at an address goes.
+pub fn bcond_target(pc: Addr, raw: u32) -> Addr
+    ensures { λ r. ⌜ r ≡ bcondTarget pc raw ⌝ }
+{
+    let ahead = std::num::wrapping_add_u32(pc, 4);
+    move_by(ahead, bcond_offset(raw))
+}
+
+// Where a branch at an address goes.
+pub fn branch_target(pc: Addr, raw: u32) -> Addr
+    ensures { λ r. ⌜ r ≡ branchTarget pc raw ⌝ }
+{
+    let ahead = std::num::wrapping_add_u32(pc, 4);
+    move_by(ahead, branch_offset(raw))
+}
+
+// The address that a load from pc reads.
+pub fn pc_load_address(pc: Addr, raw: u32) -> Addr
+    ensures { λ r. ⌜ r ≡ pcLoadAddress pc raw ⌝ }
+{
+    let ahead = std::num::wrapping_add_u32(pc, 4);
+    let aligned = ahead - ahead / 2 % 2 * 2;
+    std::num::wrapping_add_u32(aligned, word8(raw))
+}
+
+// The number that a lone call half prints: a first half's offset as 32 bits, or twice a second half's field.
+pub fn call_half(raw: u32) -> u32
+    ensures { λ r. ⌜ r ≡ callHalf raw ⌝ }
+{
+    if bit(raw, 11) {
+        return offset11(raw) * 2;
+    }
+    move_by(0, call_offset(raw))
 }

@@ -4,7 +4,7 @@ use borrow.Author.Needs.{needs}
 use borrow.Author.Tests.{le-ltb, lt-ltb}
 use mathlib.Core.Path.{_∙_}
 use native.Mathlib.Omega.{arith}
-use Rattle.arm7tdmi.proofs.Signed.{scaled-up, negated-fits, scaled-fits, shifted}
+use Rattle.arm7tdmi.proofs.Integers.{scaled-up, negated-fits, scaled-fits, shifted}
 use Rattle.arm7tdmi.specs.Arm.{branchOffset}
 use Rattle.arm7tdmi.proofs.arm.branch_offset.Statement.{statement}
 use Rattle.arm7tdmi.proofs.arm.branch_offset.Tie as tie

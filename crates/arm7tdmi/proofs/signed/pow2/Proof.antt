@@ -1,9 +1,9 @@
--- `arm7tdmi::bit::pow2` meets its contract. Assumes nothing.
+-- `arm7tdmi::signed::pow2` meets its contract. Assumes nothing.
 use borrow.Author.Needs.{needs}
 use lib.Pow.{pow-lt}
 use native.Mathlib.Nat.{mod-eq-of-lt, one-mul}
-use Rattle.arm7tdmi.proofs.bit.pow2.Statement.{statement}
-use Rattle.arm7tdmi.proofs.bit.pow2.Tie as tie
+use Rattle.arm7tdmi.proofs.signed.pow2.Statement.{statement}
+use Rattle.arm7tdmi.proofs.signed.pow2.Tie as tie
 
 returns : tie.Need-returns
 returns c = rw one-mul (mod-eq-of-lt (pow-lt {j = 32} (c .pre)))

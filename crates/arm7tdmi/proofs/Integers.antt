@@ -66,6 +66,11 @@ scaled-up n h =
 pub kept-value : (z : ℤ) → mag z < 2 ^ 31 - 1 → toZ w32 (ofZ w32 z) ≡ z
 kept-value z h = toZ-ofZ w32 z (record { sfits = omega arith })
 
+-- the negative of a number, held as a value
+pub kept-negative : (m : ℕ) → m < 2 ^ 31 → toZ w32 (ofZ w32 (negℤ (pos m))) ≡ negℤ (pos m)
+kept-negative zero h = toZ-pos w32 0 (omega arith)
+kept-negative (suc k) h = below-zero k (omega arith)
+
 -- what the code has of a number below zero, and of another
 pub record Down (z : ℤ) : Type 0 where
   pub negs : pos 0 -ℤ z ≡ pos (natAbs z)
@@ -101,13 +106,13 @@ module _ (z : ℤ) (h : mag z < 2 ^ 31 - 1) (d : Down z) where
 
 -- ---- a sign-extended field: its size, and its bits, for any width and scale that leave room
 module _ (w k x : ℕ) (h : x < 2 ^ w) (s : 0 < k) (r : 2 ^ w * k ≤ 2 ^ 30) where
-  down-size : (2 ^ w - x) * k ≤ 2 ^ 30
+  pub down-size : (2 ^ w - x) * k ≤ 2 ^ 30
   down-size = let a : (2 ^ w - x) * k ≤ 2 ^ w * k = mul-le-mul-right k (omega arith) in omega arith
 
   down-some : 0 < (2 ^ w - x) * k
   down-some = let a : 1 * k ≤ (2 ^ w - x) * k = mul-le-mul-right k (omega arith) in omega arith
 
-  up-size : x * k ≤ 2 ^ 30
+  pub up-size : x * k ≤ 2 ^ 30
   up-size = let a : x * k ≤ 2 ^ w * k = mul-le-mul-right k (omega arith) in omega arith
 
   pub extended-small : mag (signedTimes w k x) < 2 ^ 31 - 1
@@ -122,3 +127,14 @@ module _ (w k x : ℕ) (h : x < 2 ^ w) (s : 0 < k) (r : 2 ^ w * k ≤ 2 ^ 30) wh
       by-test (ltb x (2 ^ (w - 1)))
       (λ e. rw e)
       (λ e. let a = down-size in let b = down-some in rw (e, neg-pos ((2 ^ w - x) * k) b) (omega arith))
+
+  -- a result that is passed on is read back from its bits
+  module _ {z : ℤ} (e : z ≡ signedTimes w k x) where
+    pub handed : toZ w32 (ofZ w32 z) ≡ signedTimes w k x
+    handed = ap (λ (y : ℤ). toZ w32 (ofZ w32 y)) e ∙ kept-value (signedTimes w k x) extended-small
+
+    pub handed-small : mag (toZ w32 (ofZ w32 z)) < 2 ^ 31 - 1
+    handed-small = rw handed extended-small
+
+    pub handed-bits : ofZ w32 (toZ w32 (ofZ w32 z)) ≡ extended w k x
+    handed-bits = rw handed extended-bits

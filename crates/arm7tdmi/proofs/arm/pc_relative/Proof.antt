@@ -1,0 +1,12 @@
+-- `arm7tdmi::arm::pc_relative` meets its contract. Assumes nothing.
+use borrow.Author.Needs.{needs}
+use Rattle.arm7tdmi.specs.Arm.{pcRelative}
+use Rattle.arm7tdmi.proofs.arm.pc_relative.Statement.{statement}
+use Rattle.arm7tdmi.proofs.arm.pc_relative.Tie as tie
+
+returns : tie.Need-returns
+unfolding pcRelative
+returns c = rw (← c .before .wrapping-add-u32 .ensures) (c .wrapping-add-u322 .ensures)
+
+pub pc-relative-spec : {M : Type 1} → statement M
+pc-relative-spec = tie.close (tie.spec (λ c κs. search needs) (λ c κs. search needs) returns)

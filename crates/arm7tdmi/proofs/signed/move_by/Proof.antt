@@ -1,0 +1,20 @@
+-- `arm7tdmi::signed::move_by` meets its contract. Assumes nothing.
+use Prim.Native.Nat.{_%_, _+_, _^_, ℕ}
+use borrow.Author.Needs.{needs}
+use mathlib.Core.Path.{_∙_, ap}
+use mir.Syntax.{w32}
+use mir.Val.{ofZ}
+use Rattle.arm7tdmi.proofs.Integers.{kept-value}
+use Rattle.arm7tdmi.proofs.signed.move_by.Statement.{statement}
+use Rattle.arm7tdmi.proofs.signed.move_by.Tie as tie
+
+bits-of-requires : tie.Need-bits-of-requires
+bits-of-requires c κs = rw (kept-value (c .args .by) (c .pre)) (c .pre)
+
+returns : tie.Need-returns
+returns c =
+    let a = c .before .before .args in
+    c .wrapping-add-u32 .ensures ∙ ap (λ (n : ℕ). (a .address + n) % 2 ^ 32) (c .before .bits-of .ensures ∙ ap (ofZ w32) (kept-value (a .by) (c .before .before .pre)))
+
+pub move-by-spec : {M : Type 1} → statement M
+move-by-spec = tie.close (tie.spec bits-of-requires (λ c κs. search needs) returns)
