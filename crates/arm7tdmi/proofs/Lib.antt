@@ -2,3 +2,4 @@ pub mod Rotate
 pub mod Names
 pub mod Rows
 pub mod Integers
+pub mod Registers

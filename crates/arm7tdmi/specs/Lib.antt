@@ -5,3 +5,4 @@ pub mod Arm
 pub mod Thumb
 pub mod Pieces
 pub mod Kinds
+pub mod Answer

@@ -1,7 +1,9 @@
 // Writers of a word's fields, for ARM and Thumb lines.
 ghost use mathlib.Core.Path.{_≡_};
 ghost use Rattle.text.specs.Wrote.{Wrote};
-ghost use Rattle.arm7tdmi.specs.Pieces.{regAt, condAt, either, ifSet};
+ghost use Rattle.arm7tdmi.specs.Answer.{line, printed};
+ghost use Rattle.arm7tdmi.specs.Pieces.{regAt, condAt, either, ifSet, listed, registers};
+use crate::Printed;
 use crate::arm::put_cond;
 use crate::bit::bit;
 use crate::bit::bit_range;
@@ -40,4 +42,49 @@ pub fn put_either(buf: &mut [u8], at: usize, raw: u32, n: u32, set: &[u8], clear
         return put_text(buf, at, set);
     }
     put_text(buf, at, clear)
+}
+
+// Register i of a list, with a comma before it where a lower one is in the list.
+fn put_listed(buf: &mut [u8], at: usize, raw: u32, i: u32) -> usize
+    ensures { λ r. ⌜ Wrote (now (buf .entry)) at (listed raw i) (now (buf .exit)) r ⌝ }
+{
+    if bit(raw, i) {
+        if bit_range(raw, 0, i) == 0 {
+            return put_reg(buf, at, i);
+        }
+        let at = put_text(buf, at, b", ");
+        return put_reg(buf, at, i);
+    }
+    at
+}
+
+// The registers below n of a list.
+pub fn put_registers(buf: &mut [u8], at: usize, raw: u32, n: u32) -> usize
+    ensures { λ r. ⌜ Wrote (now (buf .entry)) at (registers raw n) (now (buf .exit)) r ⌝ }
+{
+    let mut o = at;
+    let mut i = 0;
+    while i < n {
+        o = put_listed(buf, o, raw, i);
+        i += 1;
+    }
+    o
+}
+
+// A line that was written elsewhere, into the lent buffer.
+pub fn give_line(buf: &mut [u8], s: &[u8]) -> Printed
+    ensures { λ r. ⌜ printed (line (now (s .entry))) (now (buf .entry)) ≡ (r, now (buf .exit)) ⌝ }
+{
+    let n = s.len();
+    if buf.len() < n {
+        return Printed {
+            number: 3,
+            length: 0,
+        };
+    }
+    put_text(buf, 0, s);
+    Printed {
+        number: 0,
+        length: n,
+    }
 }

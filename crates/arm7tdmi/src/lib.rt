@@ -23,6 +23,12 @@ pub enum Form {
     Sheet,
 }
 
+// What a print answers: a refusal's number with length 0, or 0 with the line's length.
+pub struct Printed {
+    pub number: u32,
+    pub length: usize,
+}
+
 // The name of a register, `reg_string` of the Rust; nothing for a number past 15.
 pub fn put_reg(buf: &mut [u8], at: usize, reg: u32) -> usize
     ensures { λ r. ⌜ Wrote (now (buf .entry)) at (regString reg) (now (buf .exit)) r ⌝ }

@@ -1,0 +1,96 @@
+-- Lists of registers: what one more register adds to a list. Assumes nothing.
+use native.Mathlib.Numerals.{one-add}
+use Prim.Native.Nat.{_%_, _*_, _+_, _-_, _/_, _<_, _^_, suc, zero, ℕ}
+use borrow.Author.Tests.{eqb-false, eqb-true, ne-eqb}
+use lib.Dec.{eqb}
+use lib.Pow.{mod-pow-add, pow-pos}
+use mathlib.Core.Bool.{Bool, false, true, true≢false}
+use mathlib.Core.List.{List, [], _++_, _∷_, append-assoc, append-nil, map}
+use mathlib.Core.Path.{_∙_, _≡_, refl, sym}
+use native.Mathlib.Nat.{div-one}
+use native.Mathlib.Numerals.{add-one}
+use native.Mathlib.Omega.{arith}
+use Rattle.arm7tdmi.specs.Names.{regString}
+use Rattle.arm7tdmi.specs.Pieces.{joined, listed, registers, setBits}
+use Rattle.common.proofs.Tests.{at, by-test}
+use Rattle.common.specs.Bits.{bit, bitRange}
+use Rattle.text.specs.Text.{text}
+
+-- ---- which bits are set below a number
+-- bits 0 to i are those below i and bit i
+split : (raw i : ℕ) → raw % 2 ^ suc i ≡ raw / 2 ^ i % 2 * 2 ^ i + raw % 2 ^ i
+split raw i = rw one-add at (mod-pow-add raw 1 i)
+
+low-zero : (raw i : ℕ) → raw % 2 ^ suc i ≡ 0 → (raw % 2 ^ i ≡ 0) × (raw / 2 ^ i % 2 ≡ 0)
+low-zero raw i e =
+    let s = split raw i in
+    let p = pow-pos i in
+    let z : raw / 2 ^ i % 2 * 2 ^ i ≡ 0 = omega arith in (
+      omega arith,
+      by-test (eqb (raw / 2 ^ i % 2) 0) (λ d. eqb-true _ _ d)
+          (λ d. let n = eqb-false (raw / 2 ^ i % 2) 0 d in let o : raw / 2 ^ i % 2 ≡ 1 = omega arith in absurd (one-not (2 ^ i) p (rw o at z))),
+    )
+  where
+    one-not : (m : ℕ) → 0 < m → 1 * m ≡ 0 → ⊥
+    one-not m h e = omega arith
+
+zero-low : (raw i : ℕ) → raw % 2 ^ i ≡ 0 → raw / 2 ^ i % 2 ≡ 0 → raw % 2 ^ suc i ≡ 0
+zero-low raw i a b = rw (split raw i, b, a) (omega arith)
+
+none-below : (raw i : ℕ) → raw % 2 ^ i ≡ 0 → setBits raw i ≡ []
+unfolding setBits
+none-below raw zero e = refl
+none-below raw (suc i) e =
+    let h = low-zero raw i e in
+    let f : bit raw i ≡ false = ne-eqb (raw / 2 ^ i % 2) 1 (λ q. let z : _≡_ {A = ℕ} 0 1 = sym (h .1) ∙ q in omega arith) in
+    rw (f, none-below raw i (h .0))
+
+abbrev some : {A : Type 0} → List A → Bool
+some [] = false
+some (x ∷ xs) = true
+
+some-append : {A : Type 0} (xs ys : List A) → some xs ≡ true → some (xs ++ ys) ≡ true
+some-append [] ys e = absurd (true≢false (sym e))
+some-append (x ∷ xs) ys e = refl
+
+some-last : {A : Type 0} (xs : List A) (y : A) → some (xs ++ (y ∷ [])) ≡ true
+some-last [] y = refl
+some-last (x ∷ xs) y = refl
+
+some-below : (raw i : ℕ) → (raw % 2 ^ i ≡ 0 → ⊥) → some (setBits raw i) ≡ true
+unfolding setBits
+some-below raw zero e = absurd (e (omega arith))
+some-below raw (suc i) e =
+    by-test (bit raw i)
+    (λ t. rw t (some-last (setBits raw i) i))
+    (λ t. let z : raw / 2 ^ i % 2 ≡ 0 = let n = eqb-false (raw / 2 ^ i % 2) 1 t in omega arith in
+    rw (t, append-nil) (some-below raw i (λ q. e (zero-low raw i q z))))
+
+-- ---- a text joined to others
+joined-last : (ts : List (List ℕ)) (t : List ℕ) → some ts ≡ true → joined (ts ++ (t ∷ [])) ≡ joined ts ++ (text ", " ++ t)
+joined-last [] t e = absurd (true≢false (sym e))
+joined-last (u ∷ []) t e = refl
+joined-last (u ∷ v ∷ ts) t e = rw (joined-last (v ∷ ts) t refl) (sym (append-assoc u (text ", " ++ joined (v ∷ ts)) (text ", " ++ t)))
+
+map-last : (f : ℕ → List ℕ) (xs : List ℕ) (y : ℕ) → map f (xs ++ (y ∷ [])) ≡ map f xs ++ (f y ∷ [])
+map-last f [] y = refl
+map-last f (x ∷ xs) y = rw (map-last f xs y)
+
+some-map : (f : ℕ → List ℕ) (xs : List ℕ) → some xs ≡ true → some (map f xs) ≡ true
+some-map f [] e = e
+some-map f (x ∷ xs) e = refl
+
+-- ---- register i and those below it
+low-bits : (raw i : ℕ) → bitRange raw 0 i ≡ raw % 2 ^ i
+low-bits raw i = let e : i - 0 ≡ i = omega arith in rw (e, div-one)
+
+pub registers-next : (raw i : ℕ) → registers raw (i + 1) ≡ registers raw i ++ listed raw i
+unfolding registers listed setBits
+registers-next raw i =
+    rw add-one
+    (by-test (bit raw i)
+    (λ t. by-test (eqb (bitRange raw 0 i) 0)
+    (λ z. let n = none-below raw i (sym (low-bits raw i) ∙ eqb-true _ _ z) in rw (t, z, n))
+    (λ z. let s = some-below raw i (λ q. eqb-false _ _ z (low-bits raw i ∙ q)) in
+    rw (t, z, map-last) (joined-last (map regString (setBits raw i)) (regString i) (some-map regString (setBits raw i) s))))
+    (λ t. rw (t, append-nil, append-nil)))
