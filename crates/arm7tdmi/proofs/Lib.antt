@@ -3,3 +3,4 @@ pub mod Names
 pub mod Rows
 pub mod Integers
 pub mod Registers
+pub mod Lengths

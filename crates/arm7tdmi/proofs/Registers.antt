@@ -94,3 +94,12 @@ registers-next raw i =
     (λ z. let s = some-below raw i (λ q. eqb-false _ _ z (low-bits raw i ∙ q)) in
     rw (t, z, map-last) (joined-last (map regString (setBits raw i)) (regString i) (some-map regString (setBits raw i) s))))
     (λ t. rw (t, append-nil, append-nil)))
+
+-- no register below i, and some
+pub registers-none : (raw i : ℕ) → bitRange raw 0 i ≡ 0 → registers raw i ≡ []
+unfolding registers
+registers-none raw i e = rw (none-below raw i (sym (low-bits raw i) ∙ e))
+
+pub low-some : (raw i : ℕ) → (bitRange raw 0 i ≡ 0 → ⊥) → 0 < i
+low-some raw zero e = absurd (e (omega arith))
+low-some raw (suc i) e = omega arith
