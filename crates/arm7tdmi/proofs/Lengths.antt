@@ -54,8 +54,8 @@ unfolding listed
 one-more raw n ih =
     by-test (bit raw n)
     (λ t. by-test (eqb (bitRange raw 0 n) 0)
-      (λ z. let e = registers-none raw n (eqb-true _ _ z) in rw (t, z, e) (omega arith))
-      (λ z. let s = some-room raw n (eqb-false _ _ z) in rw (t, z) (omega arith)))
+    (λ z. let e = registers-none raw n (eqb-true _ _ z) in rw (t, z, e) (omega arith))
+    (λ z. let s = some-room raw n (eqb-false _ _ z) in rw (t, z) (omega arith)))
     (λ t. rw t (omega arith))
 
 registers-most : (raw n : ℕ) → length (registers raw n) ≤ room n - 2

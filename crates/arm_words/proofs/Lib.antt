@@ -1,0 +1,9 @@
+pub mod Scheme
+pub mod Branch
+pub mod Multiply
+pub mod Status
+pub mod Operand
+pub mod Transfer
+pub mod Halfword
+pub mod DataProcessing
+pub mod Undefined
