@@ -5,12 +5,13 @@ use mathlib.Core.List.{List, [], _∷_, _++_}
 use Prim.Native.Nat.{ℕ, zero, suc, _+_, _-_, _/_, _%_, _≤_, _<_}
 use native.Mathlib.Omega.{arith}
 use lib.Dec.{ltb, leb, eqb}
-use lib.ListN.{length, take, drop, getD}
-use lib.Seq.{take-at, drop-at}
-use borrow.Author.Tests.{eqb-true}
+use native.Mathlib.Numerals.{add-one}
+use lib.ListN.{length, take, drop, getD, drop-of-length-le}
+use lib.Seq.{take-at, drop-at, drop-cons}
+use borrow.Author.Tests.{eqb-true, eq-eqb, ne-eqb}
 use Rattle.common.specs.Lists.{first}
 use Rattle.common.proofs.Tests.{by-test, and-left, and-right, at}
-use Rattle.text.specs.Word.{isWord, isGap, word, behind, after, all}
+use Rattle.text.specs.Word.{isWord, isGap, word, behind, after, has, all}
 use Rattle.text.specs.Digits.{digit, digits, hex, dec}
 use Rattle.text.proofs.Digits.{below}
 
@@ -156,3 +157,17 @@ digits-first (suc k) w n =
 pub dec-first : (n : ℕ) → ltb (getD (dec n) 0 0) 58 ≡ true
 unfolding dec
 dec-first n = digits-first 10 1 n
+
+-- ---- the steps of a loop that looks for a byte
+module _ (x : ℕ) (s : List ℕ) (i : ℕ) where
+  pub has-here : i < length s → getD s i 0 ≡ x → has x (drop i s) ≡ true
+  unfolding has
+  has-here h e = rw (drop-cons s i 0 h, eq-eqb _ _ e)
+
+  pub has-on : i < length s → (getD s i 0 ≡ x → ⊥) → has x (drop i s) ≡ has x (drop (i + 1) s)
+  unfolding has
+  has-on h e = rw (drop-cons s i 0 h, ne-eqb _ _ e, add-one)
+
+  pub has-out : length s ≤ i → has x (drop i s) ≡ false
+  unfolding has
+  has-out h = rw (drop-of-length-le s h)

@@ -1,7 +1,7 @@
 -- The words of a line: its runs of digits and small letters. Assumes nothing.
-use mathlib.Core.Bool.{Bool, true, cond, _&&_, _||_, not}
+use mathlib.Core.Bool.{Bool, true, false, cond, _&&_, _||_, not}
 use mathlib.Core.List.{List, [], _∷_}
-use Prim.Native.Nat.{ℕ, _+_, _*_, _-_, _^_}
+use Prim.Native.Nat.{ℕ, zero, suc, _+_, _*_, _-_, _^_}
 use lib.Dec.{leb, eqb}
 use lib.ListN.{length, take, drop}
 use Rattle.common.specs.Lists.{first}
@@ -22,6 +22,16 @@ behind l = drop (first isGap l) l
 
 unfoldable pub after : List ℕ → List ℕ
 after l = drop (first isWord (behind l)) (behind l)
+
+-- what stands from word j on, counted from 0
+abbrev pub fromWord : ℕ → List ℕ → List ℕ
+fromWord zero l = l
+fromWord (suc j) l = fromWord j (after l)
+
+-- whether a byte stands in a line
+unfoldable pub has : ℕ → List ℕ → Bool
+has x [] = false
+has x (y ∷ ys) = eqb y x || has x ys
 
 -- a text of at most eight bytes, none of them 0, as one number; any other text is the number that no such text has here
 abbrev pub number : List ℕ → ℕ

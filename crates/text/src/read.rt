@@ -4,7 +4,7 @@ ghost use Prim.Native.Nat.{_+_, _≤_, _<_};
 ghost use lib.ListN.{length};
 ghost use Rattle.common.specs.Lists.{same, first, find};
 ghost use Rattle.text.specs.Digits.{digitValue, value};
-ghost use Rattle.text.specs.Word.{isWord, isGap, word, behind, after, packed};
+ghost use Rattle.text.specs.Word.{isWord, isGap, word, behind, after, has, packed};
 
 // Whether a byte is a digit or a small letter.
 pub fn is_word(x: u8) -> bool
@@ -172,4 +172,18 @@ pub fn equal(a: &[u8], b: &[u8]) -> bool
         i += 1;
     }
     true
+}
+
+// Whether a byte stands in a line.
+pub fn contains(s: &[u8], x: u8) -> bool
+    ensures { λ r. ⌜ r ≡ has x (now (s .entry)) ⌝ }
+{
+    let mut i = 0;
+    while i < s.len() {
+        if s[i] == x {
+            return true;
+        }
+        i += 1;
+    }
+    false
 }
