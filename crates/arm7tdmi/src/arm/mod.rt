@@ -4,7 +4,7 @@ ghost use mathlib.Core.Bool.{cond as boolCond};
 ghost use Prim.Native.Nat.{_≤_, _<_};
 ghost use Rattle.text.specs.Wrote.{Wrote};
 ghost use Rattle.arm7tdmi.specs.Names.{condText, condNamed};
-ghost use Rattle.arm7tdmi.specs.Kinds.{armRowAt, armFormat, armNumber};
+ghost use Rattle.arm7tdmi.specs.Kinds.{armRows, armFirst, armFormat, armNumber};
 ghost use Rattle.common.specs.Bits.{bit, bitRange};
 ghost use Rattle.arm7tdmi.specs.Alu.{aluOpCode};
 ghost use Rattle.arm7tdmi.specs.Arm.{armCond, armCondNumber, halfwordType, branchOffset, branchTarget, pcRelative, bsOp, shiftRegBy, operand2, addedOf, signedOffset, ldrStrOffset, ldrStrHsImmOffset, ldrStrHsRegOffset};
@@ -201,41 +201,37 @@ const ARM_ROWS: [ArmRow; 15] = [
     ArmRow(0x0c00_0000, 0x0000_0000, ArmFormat::DataProcessing),
 ];
 
-// Row i of the sheet, which differs in one.
-fn sheet_row(i: usize) -> ArmRow
-    requires { ⌜ i < 15 ⌝ }
-    ensures { λ r. ⌜ r ≡ armRowAt Form.Sheet i ⌝ }
+// The rows of a form: the sheet's differ in one.
+fn arm_rows(form: Form) -> [ArmRow; 15]
+    ensures { λ r. ⌜ r ≡ armRows form ⌝ }
 {
-    if i == 2 {
-        return ArmRow(0x0e00_0010, 0x0600_0010, ArmFormat::Undefined);
+    let mut rows = ARM_ROWS;
+    if let Form::Sheet = form {
+        rows[2] = ArmRow(0x0e00_0010, 0x0600_0010, ArmFormat::Undefined);
     }
-    ARM_ROWS[i]
+    rows
 }
 
-// Row i of a form.
-fn arm_row(form: Form, i: usize) -> ArmRow
-    requires { ⌜ i < 15 ⌝ }
-    ensures { λ r. ⌜ r ≡ armRowAt form i ⌝ }
-{
-    match form {
-        Form::Bench => ARM_ROWS[i],
-        Form::Sheet => sheet_row(i),
-    }
-}
-
-// The kind of a word: the first row whose mask and value it meets.
-pub fn arm_format(form: Form, raw: u32) -> ArmFormat
-    ensures { λ r. ⌜ r ≡ armFormat form raw ⌝ }
+// The kind of the first row whose mask and value the word meets.
+fn arm_first(rows: [ArmRow; 15], raw: u32) -> ArmFormat
+    ensures { λ r. ⌜ r ≡ armFirst rows raw ⌝ }
 {
     let mut i: usize = 0;
     while i < 15 {
-        let row = arm_row(form, i);
+        let row = rows[i];
         if raw & row.0 == row.1 {
             return row.2;
         }
         i += 1;
     }
     ArmFormat::Undefined
+}
+
+// The kind of a word.
+pub fn arm_format(form: Form, raw: u32) -> ArmFormat
+    ensures { λ r. ⌜ r ≡ armFormat form raw ⌝ }
+{
+    arm_first(arm_rows(form), raw)
 }
 
 // A decoded word.

@@ -4,7 +4,7 @@ ghost use Prim.Native.Nat.{_<_};
 ghost use Rattle.common.specs.Bits.{bit, bitRange};
 ghost use Rattle.arm7tdmi.specs.Alu.{barrelShiftOpCode};
 ghost use Rattle.arm7tdmi.specs.Arm.{armCond};
-ghost use Rattle.arm7tdmi.specs.Kinds.{thumbRowAt, thumbFormat, thumbNumber};
+ghost use Rattle.arm7tdmi.specs.Kinds.{thumbRows, thumbFirst, thumbFormat, thumbNumber};
 ghost use Rattle.arm7tdmi.specs.Thumb.{opFormat3, opFormat5, thumbAluOp, bcondOffset, branchOffset11, callOffset, bcondTarget, branchTarget, pcLoadAddress, callHalf, word8, sword7};
 use crate::Form;
 use crate::alu::BarrelShiftOpCode;
@@ -97,41 +97,37 @@ const THUMB_ROWS: [ThumbRow; 20] = [
     ThumbRow(0xf000, 0xf000, ThumbFormat::BranchLongWithLink),
 ];
 
-// Row i of the sheet, which differs in one.
-fn sheet_row(i: usize) -> ThumbRow
-    requires { ⌜ i < 20 ⌝ }
-    ensures { λ r. ⌜ r ≡ thumbRowAt Form.Sheet i ⌝ }
+// The rows of a form: the sheet's differ in one.
+fn thumb_rows(form: Form) -> [ThumbRow; 20]
+    ensures { λ r. ⌜ r ≡ thumbRows form ⌝ }
 {
-    if i == 16 {
-        return ThumbRow(0xff00, 0xde00, ThumbFormat::Undefined);
+    let mut rows = THUMB_ROWS;
+    if let Form::Sheet = form {
+        rows[16] = ThumbRow(0xff00, 0xde00, ThumbFormat::Undefined);
     }
-    THUMB_ROWS[i]
+    rows
 }
 
-// Row i of a form.
-fn thumb_row(form: Form, i: usize) -> ThumbRow
-    requires { ⌜ i < 20 ⌝ }
-    ensures { λ r. ⌜ r ≡ thumbRowAt form i ⌝ }
-{
-    match form {
-        Form::Bench => THUMB_ROWS[i],
-        Form::Sheet => sheet_row(i),
-    }
-}
-
-// The kind of a word: the first row whose mask and value it meets.
-pub fn thumb_format(form: Form, raw: u16) -> ThumbFormat
-    ensures { λ r. ⌜ r ≡ thumbFormat form raw ⌝ }
+// The kind of the first row whose mask and value the word meets.
+fn thumb_first(rows: [ThumbRow; 20], raw: u16) -> ThumbFormat
+    ensures { λ r. ⌜ r ≡ thumbFirst rows raw ⌝ }
 {
     let mut i: usize = 0;
     while i < 20 {
-        let row = thumb_row(form, i);
+        let row = rows[i];
         if raw & row.0 == row.1 {
             return row.2;
         }
         i += 1;
     }
     ThumbFormat::Undefined
+}
+
+// The kind of a word.
+pub fn thumb_format(form: Form, raw: u16) -> ThumbFormat
+    ensures { λ r. ⌜ r ≡ thumbFormat form raw ⌝ }
+{
+    thumb_first(thumb_rows(form), raw)
 }
 
 // A decoded word.

@@ -1,0 +1,13 @@
+-- `modestsilk::form_of` meets its contract. Assumes nothing.
+use borrow.Author.Tests.{eq-eqb, ne-eqb}
+use Rattle.modestsilk.proofs.form_of.Statement.{statement}
+use Rattle.modestsilk.proofs.form_of.Tie as tie
+
+returns : tie.Need-returns
+returns c = rw (eq-eqb _ 0 (c .if1 .taken))
+
+returns-2 : tie.Need-returns-2
+returns-2 c = rw (ne-eqb _ 0 (c .if1 .left))
+
+pub form-of-spec : {M : Type 1} → statement M
+form-of-spec = tie.close (tie.spec returns returns-2)

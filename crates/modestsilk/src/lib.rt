@@ -1,0 +1,53 @@
+// The operations for callers in C: thin calls of the proved ones. Each has the contract of the operation that it calls.
+ghost use mathlib.Core.Path.{_≡_};
+ghost use Rattle.arm7tdmi.specs.Answer.{printed};
+ghost use Rattle.arm7tdmi.specs.Kinds.{armFormat, armNumber, thumbFormat, thumbNumber};
+ghost use Rattle.arm_disass.specs.Print.{armLine};
+ghost use Rattle.modestsilk.specs.Numbers.{formOf};
+use arm_disass::print_arm;
+use arm7tdmi::Form;
+use arm7tdmi::arm::arm_format;
+use arm7tdmi::thumb::thumb_format;
+
+fn form_of(n: u32) -> Form
+    ensures { λ r. ⌜ r ≡ formOf n ⌝ }
+{
+    if n == 0 {
+        return Form::Bench;
+    }
+    Form::Sheet
+}
+
+// The number of the kind of an ARM word.
+#[no_mangle]
+pub extern "C" fn silk_kind_arm(form: u32, word: u32) -> u32
+    ensures { λ r. ⌜ r ≡ armNumber (armFormat (formOf form) word) ⌝ }
+{
+    let fmt = arm_format(form_of(form), word);
+    fmt.number()
+}
+
+// The number of the kind of a Thumb word.
+#[no_mangle]
+pub extern "C" fn silk_kind_thumb(form: u32, word: u16) -> u32
+    ensures { λ r. ⌜ r ≡ thumbNumber (thumbFormat (formOf form) word) ⌝ }
+{
+    let fmt = thumb_format(form_of(form), word);
+    fmt.number()
+}
+
+// The line of an ARM word into a buffer, its length behind the pointer; the answer is the refusal's number, or 0.
+#[no_mangle]
+pub extern "C" fn silk_print_arm(
+    form: u32,
+    word: u32,
+    address: u32,
+    line: &mut [u8],
+    length: &mut usize,
+) -> u32
+    ensures { λ r. ⌜ printed (armLine (formOf form) address word) (now (line .entry)) ≡ (record { number = r; length = now (length .exit) }, now (line .exit)) ⌝ }
+{
+    let p = print_arm(form_of(form), word, address, line);
+    *length = p.length;
+    p.number
+}
