@@ -1,10 +1,10 @@
 -- Names of registers and conditions: what the code writes, that it is read back, and how long it is. Assumes nothing.
-use Prim.Native.Nat.{_*_, _<_, ℕ}
-use borrow.Author.Tests.{eqb-true, ltb-false, ltb-true, ne-eqb}
+use Prim.Native.Nat.{_*_, _+_, _<_, _≤_, ℕ}
+use borrow.Author.Tests.{eqb-false, eqb-true, ne-eqb}
 use lib.Dec.{eqb, ltb}
-use lib.ListN.{List·getD-eq-default, drop, drop-of-length-le, getD, take}
+use lib.ListN.{List·getD-eq-default, getD}
 use mathlib.Core.Bool.{cond, false, true}
-use mathlib.Core.List.{List, [], map}
+use mathlib.Core.List.{List, [], _++_, _∷_, map}
 use mathlib.Core.Path.{_≡_, refl, sym}
 use native.Mathlib.Omega.{arith}
 use Rattle.arm7tdmi.specs.Names.{condNamed, condNames, condText, regNamed, regNames, regString}
@@ -17,35 +17,35 @@ use Rattle.text.proofs.Word.{wordy}
 use Rattle.text.specs.Text.{text}
 use Rattle.text.specs.Word.{isWord, packed}
 
--- ---- what the code writes: two bytes of a row of names
-abbrev pub regPairs : List ℕ
-regPairs = text "r0r1r2r3r4r5r6r7r8r9  fpipsplrpc"
+-- ---- what the code writes: two bytes of a row of names, and a third for r10
+abbrev pub regBytes : List ℕ
+regBytes = text "r0r1r2r3r4r5r6r7r8r9r1fpipsplrpc"
 
-abbrev regWritten : ℕ → List ℕ
-regWritten n = cond (eqb n 10) (text "r10") (take 2 (drop (2 * n) regPairs))
+abbrev pair : List ℕ → ℕ → List ℕ
+pair l n = getD l (2 * n) 0 ∷ getD l (2 * n + 1) 0 ∷ []
 
-pub reg-ten : text "r10" ≡ regString 10
+pub reg-none : (n : ℕ) → 16 ≤ n → [] ≡ regString n
+unfolding regString regNames
+reg-none n h = sym (List·getD-eq-default regNames [] {n = n} h)
+
+pub reg-ten : pair regBytes 10 ++ text "0" ≡ regString 10
 unfolding regString regNames
 reg-ten = refl
 
-pub reg-pair : (n : ℕ) → (n ≡ 10 → ⊥) → take 2 (drop (2 * n) regPairs) ≡ regString n
+pub reg-pair : (n : ℕ) → n < 16 → (n ≡ 10 → ⊥) → pair regBytes n ≡ regString n
 unfolding regString regNames same
-reg-pair n h =
-    by-test (ltb n 16)
-    (λ e. rw (ne-eqb n 10 h) at (agreed regWritten regString 16 refl n (ltb-true _ _ e)))
-    (λ e. let l = ltb-false n 16 e in
-    rw (drop-of-length-le regPairs {i = 2 * n} (omega arith)) (sym (List·getD-eq-default regNames [] {n = n} l)))
+reg-pair n h e = rw (ne-eqb n 10 e) at (agreed (λ n. cond (eqb n 10) (text "r10") (pair regBytes n)) regString 16 refl n h)
 
-abbrev pub condPairs : List ℕ
-condPairs = text "eqnecsccmiplvsvchilsgeltgtle"
+abbrev pub condBytes : List ℕ
+condBytes = text "eqnecsccmiplvsvchilsgeltgtle"
 
-pub cond-pair : (n : ℕ) → take 2 (drop (2 * n) condPairs) ≡ condText n
+pub cond-none : (n : ℕ) → 14 ≤ n → [] ≡ condText n
+unfolding condText condNames
+cond-none n h = by-test (eqb n 14) (λ e. rw (eqb-true n 14 e)) (λ e. let d = eqb-false n 14 e in sym (List·getD-eq-default condNames [] {n = n} (omega arith)))
+
+pub cond-pair : (n : ℕ) → n < 14 → pair condBytes n ≡ condText n
 unfolding condText condNames same
-cond-pair n =
-    by-test (ltb n 15)
-    (λ e. agreed (λ n. take 2 (drop (2 * n) condPairs)) condText 15 refl n (ltb-true _ _ e))
-    (λ e. let l = ltb-false n 15 e in
-    rw (drop-of-length-le condPairs {i = 2 * n} (omega arith)) (sym (List·getD-eq-default condNames [] {n = n} l)))
+cond-pair n h = agreed (pair condBytes) condText 14 refl n h
 
 -- ---- what is written is read back
 pub reg-back : (n : ℕ) → n < 16 → regNamed (regString n) ≡ n

@@ -3,8 +3,7 @@ ghost use mathlib.Core.Path.{_≡_};
 ghost use Prim.Native.Nat.{_≤_};
 ghost use Rattle.text.specs.Wrote.{Wrote};
 ghost use Rattle.arm7tdmi.specs.Names.{regString, regNamed};
-use text::put::part;
-use text::put::put_text;
+use text::put::put_byte;
 use text::read::pack;
 use text::read::position;
 
@@ -33,11 +32,17 @@ pub struct Printed {
 pub fn put_reg(buf: &mut [u8], at: usize, reg: u32) -> usize
     ensures { λ r. ⌜ Wrote (now (buf .entry)) at (regString reg) (now (buf .exit)) r ⌝ }
 {
-    if reg == 10 {
-        return put_text(buf, at, b"r10");
+    if 16 <= reg {
+        return at;
     }
-    let from = 2 * reg as usize;
-    put_text(buf, at, part(b"r0r1r2r3r4r5r6r7r8r9  fpipsplrpc", from, 2))
+    let names = b"r0r1r2r3r4r5r6r7r8r9r1fpipsplrpc";
+    let i = 2 * reg as usize;
+    let at = put_byte(buf, at, names[i]);
+    let at = put_byte(buf, at, names[i + 1]);
+    if reg == 10 {
+        return put_byte(buf, at, b'0');
+    }
+    at
 }
 
 // The registers' names, packed.

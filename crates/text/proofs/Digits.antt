@@ -1,14 +1,14 @@
 -- Laws of digits: what the code tests, that the text of a number is its number, and how many digits there are. Assumes nothing.
 use mathlib.Core.Path.{_≡_, refl, sym}
 use mathlib.Core.Bool.{Bool, true, false, cond, _&&_}
-use mathlib.Core.List.{List, [], _∷_, _++_}
+use mathlib.Core.List.{List, [], _∷_, _++_, append-assoc}
 use Prim.Native.Nat.{ℕ, zero, suc, _+_, _-_, _*_, _/_, _%_, _^_, _≤_, _<_, max}
 use native.Mathlib.Nat.{div-add-mod', div-lt-iff-lt-mul, mod-lt, mod-eq-of-lt, pow-suc, pow-zero, mul-le-mul-left, div-le-self, lt-of-le-of-lt}
 use native.Mathlib.Numerals.{add-one}
 use native.Mathlib.Omega.{arith}
 use lib.Dec.{ltb, eqb}
-use lib.ListN.{length, drop, getD, length-append, drop-of-length-le}
-use lib.Seq.{drop-cons}
+use lib.ListN.{length, take, drop, getD, set, length-append, length-set, drop-of-length-le}
+use lib.Seq.{drop-cons, getD-set-same, drop-set-lt}
 use borrow.Author.Tests.{eqb-true, eqb-false, eq-eqb, ne-eqb, ltb-true}
 use Rattle.common.specs.Lists.{first}
 use Rattle.common.proofs.Tests.{by-test, at}
@@ -24,6 +24,27 @@ pub digits-more : (b k w n : ℕ) → 0 < k → (n + w ≡ 0 → ⊥) → digits
 unfolding digits
 digits-more b zero w n h e = absurd (omega arith)
 digits-more b (suc k) w n h e = let s : suc k - 1 ≡ k = omega arith in rw (s, ne-eqb (n + w) 0 e)
+
+-- one more digit in front of those that the scratch holds from i to k
+pub scratch-step : (b k i w n : ℕ) (s : List ℕ) → 0 < i → i ≤ k → i ≤ length s → (n + w ≡ 0 → ⊥)
+    → digits b i w n ++ take (k - i) (drop i s) ≡ digits b (i - 1) (w - 1) (n / b) ++ take (k - (i - 1)) (drop (i - 1) (set s (i - 1) (digit (n % b))))
+scratch-step b k i w n s h l m e =
+    let d = digit (n % b) in
+    let j = i - 1 in
+    let si : suc j ≡ i = omega arith in
+    let sk : k - j ≡ suc (k - i) = omega arith in
+    let a : j < length (set s j d) = rw length-set (omega arith) in
+    let c : drop j (set s j d) ≡ d ∷ drop i s =
+    rw (drop-cons (set s j d) j 0 a, getD-set-same s j d 0 (omega arith), drop-set-lt (suc j) s j d (omega arith), si) in
+    rw (digits-more b i w n h e, sk, c) (append-assoc (digits b j (w - 1) (n / b)) (d ∷ []) (take (k - i) (drop i s)))
+
+-- no digit is left
+pub scratch-done : (b k i w n : ℕ) (s : List ℕ) → i ≡ 0 → digits b i w n ++ take (k - i) (drop i s) ≡ take (k - i) (drop i s)
+unfolding digits
+scratch-done b k i w n s e = rw e
+
+pub scratch-none : (b k i w n : ℕ) (s : List ℕ) → n + w ≡ 0 → digits b i w n ++ take (k - i) (drop i s) ≡ take (k - i) (drop i s)
+scratch-none b k i w n s e = rw (digits-none b i w n e)
 
 -- ---- a digit is read back: 16 tests; and what the code answers for a byte: 256 tests
 pub digit-back : (d : ℕ) → d < 16 → digitValue (digit d) ≡ d

@@ -2,7 +2,7 @@
 ghost use mathlib.Core.Path.{_≡_};
 ghost use mathlib.Core.Bool.{cond};
 ghost use mathlib.Core.List.{List, [], _∷_};
-ghost use Prim.Native.Nat.{_+_, _-_, _/_, _%_, _<_};
+ghost use Prim.Native.Nat.{_+_, _-_, _/_, _%_, _≤_, _<_};
 ghost use lib.ListN.{take, drop};
 ghost use Rattle.text.specs.Wrote.{Wrote};
 ghost use Rattle.text.specs.Digits.{digit, digits, hex, dec, prefixed};
@@ -77,18 +77,25 @@ fn last_digit(is_hex: bool, n: u32) -> u8
     names[(n % 10) as usize]
 }
 
-// The digits of a number in base sixteen or ten, at least w of them, at most k.
-fn put_digits(buf: &mut [u8], at: usize, is_hex: bool, k: u32, w: u32, n: u32) -> usize
+// The digits of a number in base sixteen or ten, at least w of them, at most k: from the last to the first into a scratch.
+fn put_digits(buf: &mut [u8], at: usize, is_hex: bool, k: usize, w: u32, n: u32) -> usize
+    requires { ⌜ k ≤ 10 ⌝ }
     ensures { λ r. ⌜ Wrote (now (buf .entry)) at (digits (cond «is_hex» 16 10) k w n) (now (buf .exit)) r ⌝ }
 {
-    if k == 0 {
-        return at;
+    let mut scratch = [0u8; 10];
+    let mut i = k;
+    let mut wide = w;
+    let mut rest = n;
+    while 0 < i {
+        if rest as u64 + wide as u64 == 0 {
+            return put_text(buf, at, &scratch[i..k]);
+        }
+        i -= 1;
+        scratch[i] = last_digit(is_hex, rest);
+        wide = less(wide);
+        rest = quotient(is_hex, rest);
     }
-    if n as u64 + w as u64 == 0 {
-        return at;
-    }
-    let at = put_digits(buf, at, is_hex, k - 1, less(w), quotient(is_hex, n));
-    put_byte(buf, at, last_digit(is_hex, n))
+    put_text(buf, at, &scratch[i..k])
 }
 
 // A number in lowercase hexadecimal, at least w digits.

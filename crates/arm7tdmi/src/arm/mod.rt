@@ -19,8 +19,7 @@ use crate::bit::bit;
 use crate::bit::bit_range;
 use crate::memory::Addr;
 use crate::signed::move_by;
-use text::put::part;
-use text::put::put_text;
+use text::put::put_byte;
 use text::read::pack;
 use text::read::position;
 
@@ -97,8 +96,13 @@ impl ArmCond {
 pub fn put_cond(buf: &mut [u8], at: usize, n: u32) -> usize
     ensures { λ r. ⌜ Wrote (now (buf .entry)) at (condText n) (now (buf .exit)) r ⌝ }
 {
-    let from = 2 * n as usize;
-    put_text(buf, at, part(b"eqnecsccmiplvsvchilsgeltgtle", from, 2))
+    if 14 <= n {
+        return at;
+    }
+    let names = b"eqnecsccmiplvsvchilsgeltgtle";
+    let i = 2 * n as usize;
+    let at = put_byte(buf, at, names[i]);
+    put_byte(buf, at, names[i + 1])
 }
 
 // The conditions' names, packed.
