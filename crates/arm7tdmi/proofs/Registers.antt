@@ -4,7 +4,7 @@ use Prim.Native.Nat.{_%_, _*_, _+_, _-_, _/_, _<_, _^_, suc, zero, ℕ}
 use borrow.Author.Tests.{eqb-false, eqb-true, ne-eqb}
 use lib.Dec.{eqb}
 use lib.Pow.{mod-pow-add, pow-pos}
-use mathlib.Core.Bool.{Bool, false, true, true≢false}
+use mathlib.Core.Bool.{Bool, cond, false, true, true≢false}
 use mathlib.Core.List.{List, [], _++_, _∷_, append-assoc, append-nil, map}
 use mathlib.Core.Path.{_∙_, _≡_, refl, sym}
 use native.Mathlib.Nat.{div-one}
@@ -84,15 +84,21 @@ some-map f (x ∷ xs) e = refl
 low-bits : (raw i : ℕ) → bitRange raw 0 i ≡ raw % 2 ^ i
 low-bits raw i = let e : i - 0 ≡ i = omega arith in rw (e, div-one)
 
+-- one more text behind the names: alone, or behind a comma
+pub registers-then : (raw i : ℕ) (t : List ℕ) → joined (map regString (setBits raw i) ++ (t ∷ [])) ≡ registers raw i ++ cond (eqb (bitRange raw 0 i) 0) t (text ", " ++ t)
+unfolding registers
+registers-then raw i t =
+    by-test (eqb (bitRange raw 0 i) 0)
+    (λ z. let n = none-below raw i (sym (low-bits raw i) ∙ eqb-true _ _ z) in rw (z, n))
+    (λ z. let s = some-below raw i (λ q. eqb-false _ _ z (low-bits raw i ∙ q)) in
+    rw z (joined-last (map regString (setBits raw i)) t (some-map regString (setBits raw i) s)))
+
 pub registers-next : (raw i : ℕ) → registers raw (i + 1) ≡ registers raw i ++ listed raw i
 unfolding registers listed setBits
 registers-next raw i =
     rw add-one
     (by-test (bit raw i)
-    (λ t. by-test (eqb (bitRange raw 0 i) 0)
-    (λ z. let n = none-below raw i (sym (low-bits raw i) ∙ eqb-true _ _ z) in rw (t, z, n))
-    (λ z. let s = some-below raw i (λ q. eqb-false _ _ z (low-bits raw i ∙ q)) in
-    rw (t, z, map-last) (joined-last (map regString (setBits raw i)) (regString i) (some-map regString (setBits raw i) s))))
+    (λ t. rw (t, map-last) (registers-then raw i (regString i)))
     (λ t. rw (t, append-nil, append-nil)))
 
 -- no register below i, and some

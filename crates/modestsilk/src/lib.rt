@@ -3,11 +3,13 @@ ghost use mathlib.Core.Path.{_≡_};
 ghost use Rattle.arm7tdmi.specs.Answer.{printed};
 ghost use Rattle.arm7tdmi.specs.Kinds.{armFormat, armNumber, thumbFormat, thumbNumber};
 ghost use Rattle.arm_disass.specs.Print.{armLine};
+ghost use Rattle.thumb_disass.specs.Print.{thumbLine};
 ghost use Rattle.modestsilk.specs.Numbers.{formOf};
 use arm_disass::print_arm;
 use arm7tdmi::Form;
 use arm7tdmi::arm::arm_format;
 use arm7tdmi::thumb::thumb_format;
+use thumb_disass::print_thumb;
 
 fn form_of(n: u32) -> Form
     ensures { λ r. ⌜ r ≡ formOf n ⌝ }
@@ -48,6 +50,22 @@ pub extern "C" fn silk_print_arm(
     ensures { λ r. ⌜ printed (armLine (formOf form) address word) (now (line .entry)) ≡ (record { number = r; length = now (length .exit) }, now (line .exit)) ⌝ }
 {
     let p = print_arm(form_of(form), word, address, line);
+    *length = p.length;
+    p.number
+}
+
+// The same for a Thumb word.
+#[no_mangle]
+pub extern "C" fn silk_print_thumb(
+    form: u32,
+    word: u16,
+    address: u32,
+    line: &mut [u8],
+    length: &mut usize,
+) -> u32
+    ensures { λ r. ⌜ printed (thumbLine (formOf form) address word) (now (line .entry)) ≡ (record { number = r; length = now (length .exit) }, now (line .exit)) ⌝ }
+{
+    let p = print_thumb(form_of(form), word, address, line);
     *length = p.length;
     p.number
 }

@@ -77,7 +77,7 @@ pub fn next_word(s: &[u8]) -> &[u8]
 }
 
 // The value of a digit, and 16 for any other byte.
-fn digit_value(x: u8) -> u64
+pub fn digit_value(x: u8) -> u64
     ensures { λ r. ⌜ (r ≡ digitValue x) × (r < 17) ⌝ }
 {
     if x < 48 {

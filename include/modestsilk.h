@@ -1,0 +1,76 @@
+/* Modestsilk: lines of ARM7TDMI instruction words.
+ *
+ * Any word, address and buffer gets an answer; nothing has to be checked first.
+ * A form of 0 is bench, every other number sheet. A print answers 0, or the
+ * number of a refusal: 1 (condition 1111 where the condition is printed),
+ * 2 (halfword transfer of type 00), 3 (the buffer is shorter than the line).
+ * The length goes through the pointer and is 0 on a refusal; the bytes behind
+ * the line, and on a refusal all bytes, keep their values. A line has from 5 to
+ * 80 bytes and no end mark.
+ *
+ * Link with target/staticlib/libmodestsilk.a (rt staticlib modestsilk).
+ */
+#ifndef MODESTSILK_H
+#define MODESTSILK_H
+
+#include <stddef.h>
+#include <stdint.h>
+
+#ifdef __cplusplus
+extern "C" {
+#endif
+
+enum { SILK_BENCH = 0, SILK_SHEET = 1 };
+
+enum silk_arm_kind {
+    SILK_ARM_BRANCH_EXCHANGE = 0,
+    SILK_ARM_BRANCH_LINK = 1,
+    SILK_ARM_SOFTWARE_INTERRUPT = 2,
+    SILK_ARM_MULTIPLY = 3,
+    SILK_ARM_MULTIPLY_LONG = 4,
+    SILK_ARM_SINGLE_DATA_TRANSFER = 5,
+    SILK_ARM_HALFWORD_DATA_TRANSFER_REG_OFFSET = 6,
+    SILK_ARM_HALFWORD_DATA_TRANSFER_IMMEDIATE_OFFSET = 7,
+    SILK_ARM_DATA_PROCESSING = 8,
+    SILK_ARM_BLOCK_DATA_TRANSFER = 9,
+    SILK_ARM_SINGLE_DATA_SWAP = 10,
+    SILK_ARM_MOVE_FROM_STATUS = 11,
+    SILK_ARM_MOVE_TO_STATUS = 12,
+    SILK_ARM_MOVE_TO_FLAGS = 13,
+    SILK_ARM_UNDEFINED = 14
+};
+
+enum silk_thumb_kind {
+    SILK_THUMB_MOVE_SHIFTED_REG = 0,
+    SILK_THUMB_ADD_SUB = 1,
+    SILK_THUMB_DATA_PROCESS_IMM = 2,
+    SILK_THUMB_ALU_OPS = 3,
+    SILK_THUMB_HI_REG_OP_OR_BRANCH_EXCHANGE = 4,
+    SILK_THUMB_LDR_PC = 5,
+    SILK_THUMB_LDR_STR_REG_OFFSET = 6,
+    SILK_THUMB_LDR_STR_SHB = 7,
+    SILK_THUMB_LDR_STR_IMM_OFFSET = 8,
+    SILK_THUMB_LDR_STR_HALF_WORD = 9,
+    SILK_THUMB_LDR_STR_SP = 10,
+    SILK_THUMB_LOAD_ADDRESS = 11,
+    SILK_THUMB_ADD_SP = 12,
+    SILK_THUMB_PUSH_POP = 13,
+    SILK_THUMB_LDM_STM = 14,
+    SILK_THUMB_BRANCH_CONDITIONAL = 15,
+    SILK_THUMB_SWI = 16,
+    SILK_THUMB_BRANCH = 17,
+    SILK_THUMB_BRANCH_LONG_WITH_LINK = 18,
+    SILK_THUMB_UNDEFINED = 19
+};
+
+uint32_t silk_kind_arm(uint32_t form, uint32_t word);
+uint32_t silk_kind_thumb(uint32_t form, uint16_t word);
+
+uint32_t silk_print_arm(uint32_t form, uint32_t word, uint32_t address, uint8_t *line, size_t capacity, size_t *length);
+uint32_t silk_print_thumb(uint32_t form, uint16_t word, uint32_t address, uint8_t *line, size_t capacity, size_t *length);
+
+#ifdef __cplusplus
+}
+#endif
+
+#endif
