@@ -118,7 +118,7 @@ dpTest op = eqb (op / 4) 2
 abbrev pub dpMove : ℕ → Bool
 dpMove op = eqb (op / 4) 3 && eqb (op % 2) 1
 
-same-test : (a b : Bool) → Bool·beq a b ≡ true → a ≡ b
+pub same-test : (a b : Bool) → Bool·beq a b ≡ true → a ≡ b
 same-test true true e = refl
 same-test true false e = sym e
 same-test false true e = e

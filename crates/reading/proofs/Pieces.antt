@@ -95,7 +95,7 @@ or-assoc : (a b c : Bool) → ((a || b) || c) ≡ (a || (b || c))
 or-assoc true b c = refl
 or-assoc false b c = refl
 
-has-append : (x : ℕ) (a b : List ℕ) → has x (a ++ b) ≡ (has x a || has x b)
+pub has-append : (x : ℕ) (a b : List ℕ) → has x (a ++ b) ≡ (has x a || has x b)
 unfolding has
 has-append x [] b = refl
 has-append x (y ∷ ys) b = rw (has-append x ys b) (sym (or-assoc (eqb y x) (has x ys) (has x b)))

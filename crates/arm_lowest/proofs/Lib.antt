@@ -1,0 +1,16 @@
+pub mod Heads
+pub mod Found
+pub mod Parts
+pub mod Rotation
+pub mod Operand
+pub mod Branch
+pub mod Multiply
+pub mod Status
+pub mod DataProcessing
+pub mod RegisterList
+pub mod Block
+pub mod Offset
+pub mod Single
+pub mod Half
+pub mod Undefined
+pub mod Read
