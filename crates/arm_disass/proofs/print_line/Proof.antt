@@ -30,7 +30,7 @@ returns c =
     let w = line-within (a .form) (a .fmt) (a .pc) (a .raw) in
     let room : length (lineOf (a .form) (a .fmt) (a .pc) (a .raw)) ≤ length (now (a .buf)) = omega (w .most, c .before .before .before .before .if1 .taken, arith) in
     let e = lies (c .before .before .put-line .ensures) room in
-    rw (le-ltb (length (now (a .buf))) (length (lineOf (a .form) (a .fmt) (a .pc) (a .raw))) room, e .0, e .1)
+    rw (le-ltb (length (now (a .buf))) (length (lineOf (a .form) (a .fmt) (a .pc) (a .raw))) room, e .0, ← e .1)
 
 -- what the scratch holds: the line, and its length is the answer
 in-scratch : {l : List ℕ} {r : ℕ} (form : Form) (fmt : ArmFormat) (pc raw : ℕ) → Wrote (replicate 80 0) 0 (lineOf form fmt pc raw) l r → (take r l ≡ lineOf form fmt pc raw) × (r ≤ length l)

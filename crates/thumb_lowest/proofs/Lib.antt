@@ -1,0 +1,10 @@
+pub mod Found
+pub mod Parts
+pub mod RegisterList
+pub mod Low
+pub mod Wide
+pub mod Branches
+pub mod High
+pub mod Stack
+pub mod Read
+pub mod Steps

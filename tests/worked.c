@@ -1,0 +1,146 @@
+/* The worked lines, bench and sheet, through the C interface, into buffers that
+ * are too short, exact and too long, with guard bytes around them and a page
+ * without access behind them. */
+#include <stdbool.h>
+#include <stdio.h>
+#include <stdlib.h>
+#include <string.h>
+#include <sys/mman.h>
+
+#include "modestsilk.h"
+
+enum { PAGE = 4096, MIDDLE = 1024, GUARD = 0xa5 };
+
+enum set { ARM, THUMB };
+
+/* What a form answers: the number, and the line where it is 0. */
+struct answer {
+    uint32_t number;
+    const char *line;
+};
+
+#define LINE(text) { 0, text }
+#define REFUSAL(number) { number, "" }
+
+static const struct row {
+    enum set set;
+    uint32_t word;
+    uint32_t address;
+    struct answer bench;
+    struct answer sheet;
+} table[] = {
+    { ARM, 0xe0821003, 0, LINE("add\tr2, r2, r3"), LINE("add\tr1, r2, r3") },
+    { ARM, 0xe5110004, 0, LINE("ldr\tr0, [r1, #4294967292]\t; 0xfffffffc"), LINE("ldr\tr0, [r1, #-4]\t; 0xfffffffc") },
+    { ARM, 0xe7910002, 0, LINE("<Undefined>"), LINE("ldr\tr0, [r1, r2]") },
+    { ARM, 0xe59f0004, 0x100, LINE("ldr\tr0, [pc, #4]\t; 0x10c"), LINE("ldr\tr0, [pc, #4]\t; 0x10c") },
+    { ARM, 0xeafffffe, 0x100, LINE("b\t0x100"), LINE("b\t0x100") },
+    { ARM, 0xf12fff10, 0, LINE("bx\tr0"), REFUSAL(1) },
+    { ARM, 0xe1800090, 0, REFUSAL(2), REFUSAL(2) },
+    { ARM, 0xf1800090, 0, REFUSAL(1), REFUSAL(1) },
+    { THUMB, 0x4480, 0, LINE("add\tr0, r0"), LINE("add\tr8, r0") },
+    { THUMB, 0xc808, 0, LINE("ldm\tr1!, {r3}"), LINE("ldm\tr0!, {r3}") },
+    { THUMB, 0xb0ff, 0, LINE("add\tsp, #fffffe04"), LINE("add\tsp, #-0x1fc") },
+    /* The row program's example. */
+    { THUMB, 0xde00, 0x100, LINE("b\t0x104"), LINE("<Undefined>") },
+    { ARM, 0xf0000000, 0, REFUSAL(1), REFUSAL(1) },
+    /* The shortest line and the longest, of 5 and 80 bytes. */
+    { ARM, 0xeafffffe, 0, LINE("b\t0x0"), LINE("b\t0x0") },
+    { ARM, 0x086affff, 0, LINE("stmdaeq\tr10!, {r0, r1, r2, r3, r4, r5, r6, r7, r8, r9, r10, fp, ip, sp, lr, pc}^"),
+      LINE("stmdaeq\tr10!, {r0, r1, r2, r3, r4, r5, r6, r7, r8, r9, r10, fp, ip, sp, lr, pc}^") },
+};
+
+/* Words whose kind differs between the forms, and two others. */
+static const struct kind {
+    enum set set;
+    uint32_t word;
+    uint32_t bench;
+    uint32_t sheet;
+} kinds[] = {
+    { ARM, 0xe0821003, SILK_ARM_DATA_PROCESSING, SILK_ARM_DATA_PROCESSING },
+    { ARM, 0xe7910002, SILK_ARM_UNDEFINED, SILK_ARM_SINGLE_DATA_TRANSFER },
+    { ARM, 0xe7910012, SILK_ARM_SINGLE_DATA_TRANSFER, SILK_ARM_UNDEFINED },
+    { THUMB, 0x4480, SILK_THUMB_HI_REG_OP_OR_BRANCH_EXCHANGE, SILK_THUMB_HI_REG_OP_OR_BRANCH_EXCHANGE },
+    { THUMB, 0xde00, SILK_THUMB_BRANCH_CONDITIONAL, SILK_THUMB_UNDEFINED },
+};
+
+/* Bench is 0, sheet every other number. */
+static const uint32_t forms[] = { SILK_BENCH, SILK_SHEET, 2, UINT32_MAX };
+
+#define COUNT(array) (sizeof(array) / sizeof(array)[0])
+
+static unsigned passed, failed;
+
+static void check(bool good, const char *what, uint32_t word, uint32_t form, size_t capacity)
+{
+    if (good) {
+        passed++;
+    } else {
+        failed++;
+        printf("%s: word %08x, form %u, capacity %zu\n", what, word, form, capacity);
+    }
+}
+
+/* Lends `capacity` bytes at a place of the page, and looks at the answer and at
+ * every byte of the page. */
+static bool lend(uint8_t *page, size_t place, size_t capacity, const struct row *row, uint32_t form)
+{
+    struct answer want = form == SILK_BENCH ? row->bench : row->sheet;
+    if (want.number == 0 && capacity < strlen(want.line)) {
+        want = (struct answer)REFUSAL(3);
+    }
+    size_t line_length = strlen(want.line);
+    size_t length = SIZE_MAX;
+    memset(page, GUARD, PAGE);
+    uint32_t number = row->set == ARM
+        ? silk_print_arm(form, row->word, row->address, page + place, capacity, &length)
+        : silk_print_thumb(form, (uint16_t)row->word, row->address, page + place, capacity, &length);
+    bool good = number == want.number && length == line_length;
+    for (size_t i = 0; i < PAGE; i++) {
+        bool inside = i >= place && i - place < line_length;
+        good = good && page[i] == (inside ? (uint8_t)want.line[i - place] : GUARD);
+    }
+    return good;
+}
+
+static void lines(uint8_t *page)
+{
+    for (size_t r = 0; r < COUNT(table); r++) {
+        for (size_t f = 0; f < COUNT(forms); f++) {
+            const struct row *row = &table[r];
+            size_t n = strlen(forms[f] == SILK_BENCH ? row->bench.line : row->sheet.line);
+            size_t capacities[] = { 0, 1, n > 0 ? n - 1 : 0, n, n + 1, 79, 80, 81, 128 };
+            for (size_t c = 0; c < COUNT(capacities); c++) {
+                size_t capacity = capacities[c];
+                check(lend(page, MIDDLE, capacity, row, forms[f]), "print, guard bytes", row->word, forms[f], capacity);
+                check(lend(page, PAGE - capacity, capacity, row, forms[f]), "print, page's end", row->word, forms[f],
+                      capacity);
+            }
+        }
+    }
+}
+
+static void kind_numbers(void)
+{
+    for (size_t k = 0; k < COUNT(kinds); k++) {
+        for (size_t f = 0; f < COUNT(forms); f++) {
+            uint32_t word = kinds[k].word;
+            uint32_t number = kinds[k].set == ARM ? silk_kind_arm(forms[f], word)
+                                                  : silk_kind_thumb(forms[f], (uint16_t)word);
+            check(number == (forms[f] == SILK_BENCH ? kinds[k].bench : kinds[k].sheet), "kind", word, forms[f], 0);
+        }
+    }
+}
+
+int main(void)
+{
+    uint8_t *page = mmap(NULL, 2 * PAGE, PROT_NONE, MAP_PRIVATE | MAP_ANONYMOUS, -1, 0);
+    if (page == MAP_FAILED || mprotect(page, PAGE, PROT_READ | PROT_WRITE) != 0) {
+        perror("a page for the buffers");
+        return EXIT_FAILURE;
+    }
+    lines(page);
+    kind_numbers();
+    munmap(page, 2 * PAGE);
+    printf("%u passed, %u failed\n", passed, failed);
+    return failed == 0 ? EXIT_SUCCESS : EXIT_FAILURE;
+}
