@@ -3,9 +3,12 @@ ghost use mathlib.Core.Path.{_≡_};
 ghost use Rattle.arm7tdmi.specs.Answer.{printed};
 ghost use Rattle.arm7tdmi.specs.Kinds.{armFormat, armNumber, thumbFormat, thumbNumber};
 ghost use Rattle.arm_disass.specs.Print.{armLine};
+ghost use Rattle.arm_read.specs.Answer.{readAnswer, readNumber, readWord};
 ghost use Rattle.thumb_disass.specs.Print.{thumbLine};
 ghost use Rattle.modestsilk.specs.Numbers.{formOf};
 use arm_disass::print_arm;
+use arm_read::ArmRead;
+use arm_read::read_arm;
 use arm7tdmi::Form;
 use arm7tdmi::arm::arm_format;
 use arm7tdmi::thumb::thumb_format;
@@ -68,4 +71,21 @@ pub extern "C" fn silk_print_thumb(
     let p = print_thumb(form_of(form), word, address, line);
     *length = p.length;
     p.number
+}
+
+// The lowest ARM word that prints a line at an address, behind the pointer; the answer is 0, or 4 with word 0 where there is none.
+#[no_mangle]
+pub extern "C" fn silk_read_arm(form: u32, address: u32, line: &[u8], word: &mut u32) -> u32
+    ensures { λ r. ⌜ (r ≡ readNumber (readAnswer (formOf form) address (now (line .entry)))) × (now (word .exit) ≡ readWord (readAnswer (formOf form) address (now (line .entry)))) ⌝ }
+{
+    match read_arm(form_of(form), address, line) {
+        ArmRead::Word(w) => {
+            *word = w;
+            0
+        }
+        ArmRead::Nothing => {
+            *word = 0;
+            4
+        }
+    }
 }

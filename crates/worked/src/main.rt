@@ -46,9 +46,23 @@ fn arm_bench() -> u32
     ensures { λ r. ⌜ r ≤ 8 ⌝ }
 {
     let n = arm(Form::Bench, 0, 0xe082_1003, 0, b"add\tr2, r2, r3");
-    let n = n + arm(Form::Bench, 0, 0xe511_0004, 0, b"ldr\tr0, [r1, #4294967292]\t; 0xfffffffc");
+    let n = n
+        + arm(
+            Form::Bench,
+            0,
+            0xe511_0004,
+            0,
+            b"ldr\tr0, [r1, #4294967292]\t; 0xfffffffc",
+        );
     let n = n + arm(Form::Bench, 0, 0xe791_0002, 0, b"<Undefined>");
-    let n = n + arm(Form::Bench, 0x100, 0xe59f_0004, 0, b"ldr\tr0, [pc, #4]\t; 0x10c");
+    let n = n
+        + arm(
+            Form::Bench,
+            0x100,
+            0xe59f_0004,
+            0,
+            b"ldr\tr0, [pc, #4]\t; 0x10c",
+        );
     let n = n + arm(Form::Bench, 0x100, 0xeaff_fffe, 0, b"b\t0x100");
     let n = n + arm(Form::Bench, 0, 0xf12f_ff10, 0, b"bx\tr0");
     let n = n + arm(Form::Bench, 0, 0xe180_0090, 2, b"");
@@ -59,9 +73,23 @@ fn arm_sheet() -> u32
     ensures { λ r. ⌜ r ≤ 8 ⌝ }
 {
     let n = arm(Form::Sheet, 0, 0xe082_1003, 0, b"add\tr1, r2, r3");
-    let n = n + arm(Form::Sheet, 0, 0xe511_0004, 0, b"ldr\tr0, [r1, #-4]\t; 0xfffffffc");
+    let n = n
+        + arm(
+            Form::Sheet,
+            0,
+            0xe511_0004,
+            0,
+            b"ldr\tr0, [r1, #-4]\t; 0xfffffffc",
+        );
     let n = n + arm(Form::Sheet, 0, 0xe791_0002, 0, b"ldr\tr0, [r1, r2]");
-    let n = n + arm(Form::Sheet, 0x100, 0xe59f_0004, 0, b"ldr\tr0, [pc, #4]\t; 0x10c");
+    let n = n
+        + arm(
+            Form::Sheet,
+            0x100,
+            0xe59f_0004,
+            0,
+            b"ldr\tr0, [pc, #4]\t; 0x10c",
+        );
     let n = n + arm(Form::Sheet, 0x100, 0xeaff_fffe, 0, b"b\t0x100");
     let n = n + arm(Form::Sheet, 0, 0xf12f_ff10, 1, b"");
     let n = n + arm(Form::Sheet, 0, 0xe180_0090, 2, b"");

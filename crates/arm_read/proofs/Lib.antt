@@ -1,0 +1,4 @@
+pub mod Stems
+pub mod RegisterList
+pub mod Dispatch
+pub mod Lines

@@ -1,0 +1,120 @@
+// Reading an ARM line back: the lowest word that prints it. A candidate is taken from the line's words and marks, printed, and compared with the line.
+ghost use mathlib.Core.Path.{_≡_};
+ghost use Prim.Native.Nat.{_≤_, _<_, _^_, _%_};
+ghost use lib.ListN.{getD};
+ghost use Rattle.arm_disass.specs.Print.{armLine};
+ghost use Rattle.arm_lowest.specs.Candidate.{candidate, families};
+ghost use Rattle.arm_lowest.specs.CandidateSimple.{undefinedCand};
+ghost use Rattle.arm_lowest.specs.Heads.{stemAt};
+ghost use Rattle.reading.specs.Read.{isLine};
+ghost use Rattle.arm_read.specs.Answer.{readAnswer};
+use arm_disass::print_arm;
+use arm7tdmi::Form;
+use arm7tdmi::arm::read_cond;
+use data_processing::dp_candidate;
+use heads::bits_at;
+use heads::family_at;
+use heads::stem_place;
+use simple::branch_candidate;
+use simple::bx_candidate;
+use simple::mrs_candidate;
+use simple::msr_candidate;
+use simple::mul_candidate;
+use simple::mull_candidate;
+use simple::swi_candidate;
+use simple::swp_candidate;
+use simple::undefined_candidate;
+use text::read::equal;
+use text::read::first_word;
+use transfer::half_candidate;
+use transfer::ldm_candidate;
+use transfer::ldr_candidate;
+
+mod data_processing;
+mod heads;
+mod operand;
+mod parts;
+mod simple;
+mod transfer;
+
+// The word that was read, or that no word prints the line.
+pub enum ArmRead {
+    Word(u32),
+    Nothing,
+}
+
+// The candidate of a family.
+fn by_family(form: Form, pc: u32, family: u8, b: u64, c: u64, line: &[u8]) -> u64
+    requires { ⌜ (family ≤ 12) × (b < 2 ^ 25) × (c ≤ 15) ⌝ }
+    ensures { λ r. ⌜ r ≡ getD families family undefinedCand form pc b c (now (line .entry)) ⌝ }
+{
+    match family {
+        0 => dp_candidate(form, b, c, line),
+        1 => branch_candidate(pc, b, c, line),
+        2 => bx_candidate(form, c, line),
+        3 => ldr_candidate(form, b, c, line),
+        4 => ldm_candidate(b, c, line),
+        5 => mrs_candidate(c, line),
+        6 => msr_candidate(c, line),
+        7 => mul_candidate(b, c, line),
+        8 => mull_candidate(b, c, line),
+        9 => half_candidate(form, b, c, line),
+        10 => swi_candidate(c, line),
+        11 => swp_candidate(b, c, line),
+        _ => undefined_candidate(form),
+    }
+}
+
+// The candidate of a mnemonic and a condition.
+fn by_stem(form: Form, pc: u32, k: usize, c: u32, line: &[u8]) -> u32
+    requires { ⌜ (k ≤ 70) × (c ≤ 15) ⌝ }
+    ensures { λ r. ⌜ r ≡ getD families (stemAt k .family) undefinedCand form pc (stemAt k .bits) c (now (line .entry)) % 2 ^ 32 ⌝ }
+{
+    (by_family(form, pc, family_at(k), bits_at(k), c as u64, line) % 0x1_0000_0000) as u32
+}
+
+// The candidate of a line: its first word is a mnemonic, or one with a condition behind it.
+fn candidate_of(form: Form, pc: u32, line: &[u8]) -> u32
+    ensures { λ r. ⌜ r ≡ candidate form pc (now (line .entry)) ⌝ }
+{
+    let w = first_word(line);
+    let k = stem_place(w);
+    if k < 70 {
+        return by_stem(form, pc, k, 14, line);
+    }
+    if w.len() < 2 {
+        return by_stem(form, pc, stem_place(&w[..0]), read_cond(w), line);
+    }
+    let n = w.len() - 2;
+    by_stem(form, pc, stem_place(&w[..n]), read_cond(&w[n..]), line)
+}
+
+// Whether a word prints a line.
+fn prints(form: Form, word: u32, pc: u32, line: &[u8]) -> bool
+    ensures { λ r. ⌜ r ≡ isLine (armLine form pc word) (now (line .entry)) ⌝ }
+{
+    let mut scratch = [0u8; 80];
+    let printed = print_arm(form, word, pc, &mut scratch);
+    if printed.number == 0 {
+        let n = printed.length;
+        return equal(&scratch[..n], line);
+    }
+    false
+}
+
+// Reads a line at an address: the lowest word that prints it.
+pub fn read_arm(form: Form, address: u32, line: &[u8]) -> ArmRead
+    ensures { λ r. ⌜ r ≡ readAnswer form address (now (line .entry)) ⌝ }
+{
+    if line.len() == 0 {
+        return ArmRead::Nothing;
+    }
+    if 80 < line.len() {
+        return ArmRead::Nothing;
+    }
+    let word = candidate_of(form, address, line);
+    if prints(form, word, address, line) {
+        return ArmRead::Word(word);
+    }
+    ArmRead::Nothing
+}
