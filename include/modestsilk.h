@@ -6,7 +6,9 @@
  * 2 (halfword transfer of type 00), 3 (the buffer is shorter than the line).
  * The length goes through the pointer and is 0 on a refusal; the bytes behind
  * the line, and on a refusal all bytes, keep their values. A line has from 5 to
- * 80 bytes and no end mark.
+ * 80 bytes and no end mark. A read takes any bytes and answers 0 with the lowest
+ * word that prints just that line at that address, or 4 with word 0 where no word
+ * does.
  *
  * Link with target/staticlib/libmodestsilk.a (rt staticlib modestsilk).
  */
@@ -68,6 +70,8 @@ uint32_t silk_kind_thumb(uint32_t form, uint16_t word);
 
 uint32_t silk_print_arm(uint32_t form, uint32_t word, uint32_t address, uint8_t *line, size_t capacity, size_t *length);
 uint32_t silk_print_thumb(uint32_t form, uint16_t word, uint32_t address, uint8_t *line, size_t capacity, size_t *length);
+
+uint32_t silk_read_arm(uint32_t form, uint32_t address, const uint8_t *line, size_t length, uint32_t *word);
 
 #ifdef __cplusplus
 }

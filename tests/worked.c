@@ -1,6 +1,6 @@
 /* The worked lines, bench and sheet, through the C interface, into buffers that
  * are too short, exact and too long, with guard bytes around them and a page
- * without access behind them. */
+ * without access behind them; and lines that are read back. */
 #include <stdbool.h>
 #include <stdio.h>
 #include <stdlib.h>
@@ -61,6 +61,28 @@ static const struct kind {
     { ARM, 0xe7910012, SILK_ARM_SINGLE_DATA_TRANSFER, SILK_ARM_UNDEFINED },
     { THUMB, 0x4480, SILK_THUMB_HI_REG_OP_OR_BRANCH_EXCHANGE, SILK_THUMB_HI_REG_OP_OR_BRANCH_EXCHANGE },
     { THUMB, 0xde00, SILK_THUMB_BRANCH_CONDITIONAL, SILK_THUMB_UNDEFINED },
+};
+
+/* Lines to be read at address 0, and the words; NONE where no word prints the line. */
+enum { NONE = 1 };
+
+static const struct reading {
+    const char *line;
+    uint32_t bench;
+    uint32_t sheet;
+} readings[] = {
+    { "add\tr1, r2, r3", NONE, 0xe0821003 },
+    { "tst\tpc, r0", 0xe11f0000, 0xe11f0000 },
+    { "mov\tr0, #256\t; 0x100", 0xe3a00c01, 0xe3a00c01 },
+    { "mov\tr0, #257\t; 0x101", NONE, NONE },
+    { "mov\tr0, #4\t; 0x4", 0xe3a00004, 0xe3a00004 },
+    { "ldr\tr0, [r1, #0]\t; 0x0", 0xe5110000, 0xe5910000 },
+    { "<Undefined>", 0x06000000, 0x06000010 },
+    { "bx\tr0", 0x012fff10, 0xe12fff10 },
+    { "", NONE, NONE },
+    { "b", NONE, NONE },
+    { "add\tr1, r2, r3\n", NONE, NONE },
+    { "b\t0x0 ", NONE, NONE },
 };
 
 /* Bench is 0, sheet every other number. */
@@ -131,6 +153,30 @@ static void kind_numbers(void)
     }
 }
 
+static void read_as(const uint8_t *line, size_t length, uint32_t form, uint32_t want)
+{
+    uint32_t word = UINT32_MAX;
+    uint32_t number = silk_read_arm(form, 0, line, length, &word);
+    bool good = want == NONE ? number == 4 && word == 0 : number == 0 && word == want;
+    check(good, "read", word, form, length);
+}
+
+/* Each line ends at the page's end. */
+static void reads(uint8_t *page)
+{
+    for (size_t f = 0; f < COUNT(forms); f++) {
+        for (size_t r = 0; r < COUNT(readings); r++) {
+            size_t length = strlen(readings[r].line);
+            uint8_t *line = page + PAGE - length;
+            memcpy(line, readings[r].line, length);
+            read_as(line, length, forms[f], forms[f] == SILK_BENCH ? readings[r].bench : readings[r].sheet);
+        }
+        memset(page, 'r', PAGE);
+        read_as(page + PAGE - 81, 81, forms[f], NONE);
+        read_as(page, PAGE, forms[f], NONE);
+    }
+}
+
 int main(void)
 {
     uint8_t *page = mmap(NULL, 2 * PAGE, PROT_NONE, MAP_PRIVATE | MAP_ANONYMOUS, -1, 0);
@@ -140,6 +186,7 @@ int main(void)
     }
     lines(page);
     kind_numbers();
+    reads(page);
     munmap(page, 2 * PAGE);
     printf("%u passed, %u failed\n", passed, failed);
     return failed == 0 ? EXIT_SUCCESS : EXIT_FAILURE;
