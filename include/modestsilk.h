@@ -72,6 +72,7 @@ uint32_t silk_print_arm(uint32_t form, uint32_t word, uint32_t address, uint8_t 
 uint32_t silk_print_thumb(uint32_t form, uint16_t word, uint32_t address, uint8_t *line, size_t capacity, size_t *length);
 
 uint32_t silk_read_arm(uint32_t form, uint32_t address, const uint8_t *line, size_t length, uint32_t *word);
+uint32_t silk_read_thumb(uint32_t form, uint32_t address, const uint8_t *line, size_t length, uint16_t *word);
 
 #ifdef __cplusplus
 }

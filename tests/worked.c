@@ -63,26 +63,35 @@ static const struct kind {
     { THUMB, 0xde00, SILK_THUMB_BRANCH_CONDITIONAL, SILK_THUMB_UNDEFINED },
 };
 
-/* Lines to be read at address 0, and the words; NONE where no word prints the line. */
+/* Lines to be read, and the words; NONE where no word prints the line. */
 enum { NONE = 1 };
 
 static const struct reading {
+    enum set set;
+    uint32_t address;
     const char *line;
     uint32_t bench;
     uint32_t sheet;
 } readings[] = {
-    { "add\tr1, r2, r3", NONE, 0xe0821003 },
-    { "tst\tpc, r0", 0xe11f0000, 0xe11f0000 },
-    { "mov\tr0, #256\t; 0x100", 0xe3a00c01, 0xe3a00c01 },
-    { "mov\tr0, #257\t; 0x101", NONE, NONE },
-    { "mov\tr0, #4\t; 0x4", 0xe3a00004, 0xe3a00004 },
-    { "ldr\tr0, [r1, #0]\t; 0x0", 0xe5110000, 0xe5910000 },
-    { "<Undefined>", 0x06000000, 0x06000010 },
-    { "bx\tr0", 0x012fff10, 0xe12fff10 },
-    { "", NONE, NONE },
-    { "b", NONE, NONE },
-    { "add\tr1, r2, r3\n", NONE, NONE },
-    { "b\t0x0 ", NONE, NONE },
+    { ARM, 0, "add\tr1, r2, r3", NONE, 0xe0821003 },
+    { ARM, 0, "tst\tpc, r0", 0xe11f0000, 0xe11f0000 },
+    { ARM, 0, "mov\tr0, #256\t; 0x100", 0xe3a00c01, 0xe3a00c01 },
+    { ARM, 0, "mov\tr0, #257\t; 0x101", NONE, NONE },
+    { ARM, 0, "mov\tr0, #4\t; 0x4", 0xe3a00004, 0xe3a00004 },
+    { ARM, 0, "ldr\tr0, [r1, #0]\t; 0x0", 0xe5110000, 0xe5910000 },
+    { ARM, 0, "<Undefined>", 0x06000000, 0x06000010 },
+    { ARM, 0, "bx\tr0", 0x012fff10, 0xe12fff10 },
+    { ARM, 0, "", NONE, NONE },
+    { ARM, 0, "b", NONE, NONE },
+    { ARM, 0, "add\tr1, r2, r3\n", NONE, NONE },
+    { ARM, 0, "b\t0x0 ", NONE, NONE },
+    { THUMB, 0x100, "b\t0x104", 0xde00, 0xe000 },
+    { THUMB, 0, "cmp\tr0, r0", 0x4280, 0x4280 },
+    { THUMB, 0, "bl\t#0x00000000", 0xf000, 0xf000 },
+    { THUMB, 0, "ldm\tr0!, {r3}", NONE, 0xc808 },
+    { THUMB, 0, "<Undefined>", 0xb100, 0xb100 },
+    { THUMB, 0, "", NONE, NONE },
+    { THUMB, 0, "cmp\tr0, r0\n", NONE, NONE },
 };
 
 /* Bench is 0, sheet every other number. */
@@ -153,10 +162,17 @@ static void kind_numbers(void)
     }
 }
 
-static void read_as(const uint8_t *line, size_t length, uint32_t form, uint32_t want)
+static void read_as(enum set set, uint32_t form, uint32_t address, const uint8_t *line, size_t length, uint32_t want)
 {
     uint32_t word = UINT32_MAX;
-    uint32_t number = silk_read_arm(form, 0, line, length, &word);
+    uint32_t number;
+    if (set == ARM) {
+        number = silk_read_arm(form, address, line, length, &word);
+    } else {
+        uint16_t half = UINT16_MAX;
+        number = silk_read_thumb(form, address, line, length, &half);
+        word = half;
+    }
     bool good = want == NONE ? number == 4 && word == 0 : number == 0 && word == want;
     check(good, "read", word, form, length);
 }
@@ -166,14 +182,17 @@ static void reads(uint8_t *page)
 {
     for (size_t f = 0; f < COUNT(forms); f++) {
         for (size_t r = 0; r < COUNT(readings); r++) {
-            size_t length = strlen(readings[r].line);
+            const struct reading *row = &readings[r];
+            size_t length = strlen(row->line);
             uint8_t *line = page + PAGE - length;
-            memcpy(line, readings[r].line, length);
-            read_as(line, length, forms[f], forms[f] == SILK_BENCH ? readings[r].bench : readings[r].sheet);
+            memcpy(line, row->line, length);
+            read_as(row->set, forms[f], row->address, line, length, forms[f] == SILK_BENCH ? row->bench : row->sheet);
         }
         memset(page, 'r', PAGE);
-        read_as(page + PAGE - 81, 81, forms[f], NONE);
-        read_as(page, PAGE, forms[f], NONE);
+        for (int set = ARM; set <= THUMB; set++) {
+            read_as(set, forms[f], 0, page + PAGE - 81, 81, NONE);
+            read_as(set, forms[f], 0, page, PAGE, NONE);
+        }
     }
 }
 

@@ -1,4 +1,4 @@
--- Reading meets its demand, for ARM words. Assumes nothing.
+-- Reading meets its demand, for both sets, forms and all addresses. Assumes nothing.
 use mathlib.Core.Bool.{cond, false, true}
 use mathlib.Core.List.{List}
 use mathlib.Core.Path.{_≡_, refl, sym, ap}
@@ -12,6 +12,9 @@ use Rattle.arm7tdmi.specs.declared.Form.{Form}
 use Rattle.arm_disass.specs.Print.{armLine}
 use Rattle.arm_lowest.specs.Read.{readArm}
 use Rattle.arm_read.specs.Answer as Arm
+use Rattle.thumb_disass.specs.Print.{thumbLine}
+use Rattle.thumb_lowest.specs.Read.{readThumb}
+use Rattle.thumb_read.specs.Answer as Thumb
 use Rattle.reading.specs.Read.{readBack}
 use Rattle.reading.proofs.Demand as Any
 use Rattle.modestsilk.specs.Demand.{Demand}
@@ -50,3 +53,12 @@ arm-demand form address l =
     by-test (ltb r (2 ^ 32))
     (λ e. rw e (success print (2 ^ 32) l (ltb-true r (2 ^ 32) e)))
     (λ e. rw e (failure print (2 ^ 32) l (let m = Any.read-most print (2 ^ 32) l in let k = ltb-false r (2 ^ 32) e in omega arith)))
+
+pub thumb-demand : (form : Form) (address : ℕ) (l : List ℕ) → Demand (thumbLine form address) (2 ^ 16) l (Thumb.readNumber (Thumb.readAnswer form address l)) (Thumb.readWord (Thumb.readAnswer form address l))
+unfolding Thumb.readAnswer readThumb
+thumb-demand form address l =
+    let print = thumbLine form address in
+    let r = readBack print (2 ^ 16) l in
+    by-test (ltb r (2 ^ 16))
+    (λ e. rw e (success print (2 ^ 16) l (ltb-true r (2 ^ 16) e)))
+    (λ e. rw e (failure print (2 ^ 16) l (let m = Any.read-most print (2 ^ 16) l in let k = ltb-false r (2 ^ 16) e in omega arith)))

@@ -3,7 +3,8 @@ ghost use mathlib.Core.Path.{_≡_};
 ghost use Rattle.arm7tdmi.specs.Answer.{printed};
 ghost use Rattle.arm7tdmi.specs.Kinds.{armFormat, armNumber, thumbFormat, thumbNumber};
 ghost use Rattle.arm_disass.specs.Print.{armLine};
-ghost use Rattle.arm_read.specs.Answer.{readAnswer, readNumber, readWord};
+ghost use Rattle.arm_read.specs.Answer as Arm;
+ghost use Rattle.thumb_read.specs.Answer as Thumb;
 ghost use Rattle.thumb_disass.specs.Print.{thumbLine};
 ghost use Rattle.modestsilk.specs.Numbers.{formOf};
 use arm_disass::print_arm;
@@ -13,6 +14,8 @@ use arm7tdmi::Form;
 use arm7tdmi::arm::arm_format;
 use arm7tdmi::thumb::thumb_format;
 use thumb_disass::print_thumb;
+use thumb_read::ThumbRead;
+use thumb_read::read_thumb;
 
 fn form_of(n: u32) -> Form
     ensures { λ r. ⌜ r ≡ formOf n ⌝ }
@@ -76,7 +79,7 @@ pub extern "C" fn silk_print_thumb(
 // The lowest ARM word that prints a line at an address, behind the pointer; the answer is 0, or 4 with word 0 where there is none.
 #[no_mangle]
 pub extern "C" fn silk_read_arm(form: u32, address: u32, line: &[u8], word: &mut u32) -> u32
-    ensures { λ r. ⌜ (r ≡ readNumber (readAnswer (formOf form) address (now (line .entry)))) × (now (word .exit) ≡ readWord (readAnswer (formOf form) address (now (line .entry)))) ⌝ }
+    ensures { λ r. ⌜ (r ≡ Arm.readNumber (Arm.readAnswer (formOf form) address (now (line .entry)))) × (now (word .exit) ≡ Arm.readWord (Arm.readAnswer (formOf form) address (now (line .entry)))) ⌝ }
 {
     match read_arm(form_of(form), address, line) {
         ArmRead::Word(w) => {
@@ -84,6 +87,23 @@ pub extern "C" fn silk_read_arm(form: u32, address: u32, line: &[u8], word: &mut
             0
         }
         ArmRead::Nothing => {
+            *word = 0;
+            4
+        }
+    }
+}
+
+// The same for a Thumb word.
+#[no_mangle]
+pub extern "C" fn silk_read_thumb(form: u32, address: u32, line: &[u8], word: &mut u16) -> u32
+    ensures { λ r. ⌜ (r ≡ Thumb.readNumber (Thumb.readAnswer (formOf form) address (now (line .entry)))) × (now (word .exit) ≡ Thumb.readWord (Thumb.readAnswer (formOf form) address (now (line .entry)))) ⌝ }
+{
+    match read_thumb(form_of(form), address, line) {
+        ThumbRead::Word(w) => {
+            *word = w;
+            0
+        }
+        ThumbRead::Nothing => {
             *word = 0;
             4
         }

@@ -1,0 +1,3 @@
+pub mod Names
+pub mod Printing
+pub mod Rows
