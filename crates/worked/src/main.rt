@@ -1,6 +1,8 @@
-// The worked lines of the scope paper, through the public operations: how many answers differ from it.
+// The worked lines and the traps of the scope paper, through the public operations: how many answers differ from it.
 ghost use Prim.Native.Nat.{_≤_};
 use arm_disass::print_arm;
+use arm_read::ArmRead;
+use arm_read::read_arm;
 use arm7tdmi::Form;
 use libc::STDOUT_FILENO;
 use text::put::part;
@@ -8,6 +10,8 @@ use text::put::put_dec;
 use text::put::put_text;
 use text::read::equal;
 use thumb_disass::print_thumb;
+use thumb_read::ThumbRead;
+use thumb_read::read_thumb;
 
 // 1 if an answer differs.
 fn differs(number: u32, line: &[u8], number_said: u32, line_said: &[u8]) -> u32
@@ -20,6 +24,19 @@ fn differs(number: u32, line: &[u8], number_said: u32, line_said: &[u8]) -> u32
         return 0;
     }
     1
+}
+
+// 1 if a number or a word differs.
+fn unlike(number: u32, word: u32, number_said: u32, word_said: u32) -> u32
+    ensures { λ r. ⌜ r ≤ 1 ⌝ }
+{
+    if number != number_said {
+        return 1;
+    }
+    if word != word_said {
+        return 1;
+    }
+    0
 }
 
 // What an ARM word prints at an address: a refusal number, or 0 and the line.
@@ -40,6 +57,25 @@ fn thumb(form: Form, address: u32, word: u16, number: u32, line: &[u8]) -> u32
     let p = print_thumb(form, word, address, &mut buf);
     let n = p.length;
     differs(p.number, part(&buf, 0, n), number, line)
+}
+
+// What a line reads as at address 0: a refusal number with word 0, or 0 and the word.
+fn arm_line(form: Form, line: &[u8], number: u32, word: u32) -> u32
+    ensures { λ r. ⌜ r ≤ 1 ⌝ }
+{
+    match read_arm(form, 0, line) {
+        ArmRead::Word(w) => unlike(0, w, number, word),
+        ArmRead::Nothing => unlike(4, 0, number, word),
+    }
+}
+
+fn thumb_line(form: Form, address: u32, line: &[u8], number: u32, word: u32) -> u32
+    ensures { λ r. ⌜ r ≤ 1 ⌝ }
+{
+    match read_thumb(form, address, line) {
+        ThumbRead::Word(w) => unlike(0, w as u32, number, word),
+        ThumbRead::Nothing => unlike(4, 0, number, word),
+    }
 }
 
 fn arm_bench() -> u32
@@ -107,10 +143,53 @@ fn thumb_both() -> u32
     n + thumb(Form::Sheet, 0, 0xb0ff, 0, b"add\tsp, #-0x1fc")
 }
 
+fn read_bench() -> u32
+    ensures { λ r. ⌜ r ≤ 8 ⌝ }
+{
+    let n = arm_line(Form::Bench, b"add\tr1, r2, r3", 4, 0);
+    let n = n + arm_line(Form::Bench, b"tst\tpc, r0", 0, 0xe11f_0000);
+    let n = n + arm_line(Form::Bench, b"mov\tr0, #256\t; 0x100", 0, 0xe3a0_0c01);
+    let n = n + arm_line(Form::Bench, b"mov\tr0, #257\t; 0x101", 4, 0);
+    let n = n + arm_line(Form::Bench, b"mov\tr0, #4\t; 0x4", 0, 0xe3a0_0004);
+    let n = n + arm_line(Form::Bench, b"ldr\tr0, [r1, #0]\t; 0x0", 0, 0xe511_0000);
+    let n = n + arm_line(Form::Bench, b"<Undefined>", 0, 0x0600_0000);
+    n + arm_line(Form::Bench, b"bx\tr0", 0, 0x012f_ff10)
+}
+
+fn read_sheet() -> u32
+    ensures { λ r. ⌜ r ≤ 7 ⌝ }
+{
+    let n = arm_line(Form::Sheet, b"add\tr1, r2, r3", 0, 0xe082_1003);
+    let n = n + arm_line(Form::Sheet, b"tst\tpc, r0", 0, 0xe11f_0000);
+    let n = n + arm_line(Form::Sheet, b"mov\tr0, #256\t; 0x100", 0, 0xe3a0_0c01);
+    let n = n + arm_line(Form::Sheet, b"mov\tr0, #257\t; 0x101", 4, 0);
+    let n = n + arm_line(Form::Sheet, b"mov\tr0, #4\t; 0x4", 0, 0xe3a0_0004);
+    let n = n + arm_line(Form::Sheet, b"ldr\tr0, [r1, #0]\t; 0x0", 0, 0xe591_0000);
+    n + arm_line(Form::Sheet, b"<Undefined>", 0, 0x0600_0010)
+}
+
+fn read_thumb_lines() -> u32
+    ensures { λ r. ⌜ r ≤ 8 ⌝ }
+{
+    let n = thumb_line(Form::Bench, 0x100, b"b\t0x104", 0, 0xde00);
+    let n = n + thumb_line(Form::Sheet, 0x100, b"b\t0x104", 0, 0xe000);
+    let n = n + thumb_line(Form::Bench, 0, b"cmp\tr0, r0", 0, 0x4280);
+    let n = n + thumb_line(Form::Sheet, 0, b"cmp\tr0, r0", 0, 0x4280);
+    let n = n + thumb_line(Form::Bench, 0, b"bl\t#0x00000000", 0, 0xf000);
+    let n = n + thumb_line(Form::Sheet, 0, b"bl\t#0x00000000", 0, 0xf000);
+    let n = n + thumb_line(Form::Bench, 0, b"ldm\tr0!, {r3}", 4, 0);
+    n + thumb_line(Form::Bench, 0, b"ROR\tr0, r0, #0", 4, 0)
+}
+
 fn main() {
     let mut out = [0u8; 64];
-    let n = arm_bench() + arm_sheet() + thumb_both();
+    let n = arm_bench()
+        + arm_sheet()
+        + thumb_both()
+        + read_bench()
+        + read_sheet()
+        + read_thumb_lines();
     let at = put_dec(&mut out, 0, n);
-    let at = put_text(&mut out, at, b" of 22 answers differ\n");
+    let at = put_text(&mut out, at, b" of 45 answers differ\n");
     io::write_all(STDOUT_FILENO, part(&out, 0, at));
 }
