@@ -1,96 +1,93 @@
--- The code's tables of mnemonics are those of the definitions, and a packed name is found by its slot. Assumes nothing.
-use Prim.Native.Nat.{_%_, _*_, _/_, _<_, _^_, _≤_, suc, suc-le-suc, zero, zero-le, ℕ}
-use borrow.Author.Tests.{eq-eqb, eqb-true, leb-true, ltb-false, ltb-true}
+-- The mnemonics, as the code's matches have them. Assumes nothing.
+use Prim.Native.Nat.{_%_, _*_, _/_, _<_, _^_, _≤_, suc, ℕ}
+use borrow.Author.Tests.{eqb-false, eqb-true, leb-true, ltb-false, ltb-true}
 use lib.Dec.{eqb, leb, ltb}
-use lib.ListN.{getD, length}
-use mathlib.Core.Bool.{Bool, _&&_, true}
-use mathlib.Core.List.{List, [], _++_, _∷_, map}
-use mathlib.Core.Path.{_≡_, refl}
-use native.Mathlib.Nat.{le-of-suc-le-suc, not-suc-le-zero}
+use lib.ListN.{length}
+use mathlib.Core.Bool.{Bool, cond, true}
+use mathlib.Core.List.{List, [], _∷_, map}
+use mathlib.Core.Path.{_≡_, ap, refl, sym}
+use native.Mathlib.Nat.{lt-irrefl, lt-of-le-of-lt}
 use native.Mathlib.Omega.{arith}
-use Rattle.arm_lowest.specs.Heads.{Stem, stemAt, stemNames, stems}
+use Rattle.arm_lowest.proofs.Heads.{stem-found}
+use Rattle.arm_lowest.specs.Heads.{stemAt, stemNames, stems}
+use Rattle.arm_read.specs.Stems.{headNumber}
 use Rattle.common.proofs.Lists.{first-le}
-use Rattle.common.proofs.Tests.{and-left, and-right, at, by-test}
-use Rattle.common.specs.Lists.{find, first}
-use Rattle.text.proofs.Wrote.{one}
+use Rattle.common.proofs.Tests.{at, by-test}
+use Rattle.common.specs.Lists.{find, first, place, same}
+use Rattle.text.proofs.Packed.{Bytes}
 use Rattle.text.specs.Word.{packed}
 
--- ---- a number in a list, by the one place where it may stand
-module _ (p : ℕ → Bool) where
-  first-passes : (xs : List ℕ) → first p xs < length xs → p (getD xs (first p xs) 0) ≡ true
+-- ---- a match: a number that passes p, and is none of those in a list that do, is not in the list
+-- the numbers that pass, the last first, as the last arm of a match has them
+abbrev pub picked : (ℕ → Bool) → List ℕ → List ℕ → List ℕ
+picked p acc [] = acc
+picked p acc (x ∷ xs) = picked p (cond (p x) (x ∷ acc) acc) xs
+
+abbrev pub NoneOf : ℕ → List ℕ → Type 0
+NoneOf n [] = Unit {0}
+NoneOf n (k ∷ ks) = NoneOf n ks × (n ≡ k → ⊥)
+
+module _ (p : ℕ → Bool) (n : ℕ) where
+  keeps : (xs acc : List ℕ) → NoneOf n (picked p acc xs) → NoneOf n acc
+  keeps [] acc h = h
+  keeps (x ∷ xs) acc h =
+      let more = keeps xs (x ∷ acc) in
+      let same = keeps xs acc in
+      by-test (p x) (λ e. more (rw e at h) .0) (λ e. same (rw e at h))
+
+  pub none-found : (xs acc : List ℕ) → p n ≡ true → NoneOf n (picked p acc xs) → find n xs ≡ length xs
   unfolding first
-  first-passes [] h = absurd (not-suc-le-zero h)
-  first-passes (x ∷ xs) h =
-      let ih = first-passes xs in
-      by-test (p x) (λ e. rw e e) (λ e. rw e (ih (le-of-suc-le-suc (rw e at h))))
+  none-found [] acc t h = refl
+  none-found (x ∷ xs) acc t h =
+      let ih = none-found xs (cond (p x) (x ∷ acc) acc) t h in
+      by-test (eqb x n)
+      (λ e. let q : x ≡ n = eqb-true x n e in
+      let px : p x ≡ true = rw q t in
+      absurd (keeps xs (x ∷ acc) (rw px at h) .1 (sym q)))
+      (λ e. rw e (ap suc ih))
 
-  first-at-most : (xs : List ℕ) (k : ℕ) → k < length xs → p (getD xs k 0) ≡ true → first p xs ≤ k
-  unfolding first
-  first-at-most [] k h e = absurd (not-suc-le-zero h)
-  first-at-most (x ∷ xs) zero h e = rw e zero-le
-  first-at-most (x ∷ xs) (suc k) h e =
-      let ih = first-at-most xs k (le-of-suc-le-suc h) e in
-      by-test (p x) (λ t. rw t zero-le) (λ t. rw t (suc-le-suc ih))
-
-module _ (xs : List ℕ) (n k : ℕ) (one : (j : ℕ) → j < length xs → getD xs j 0 ≡ n → k ≡ j) where
-  stands : find n xs < length xs → getD xs (find n xs) 0 ≡ n
-  stands h = eqb-true _ _ (first-passes (λ m. eqb m n) xs h)
-
-  pub find-there : k < length xs → getD xs k 0 ≡ n → k ≡ find n xs
-  find-there h e =
-      let l = first-at-most (λ m. eqb m n) xs k h (eq-eqb _ _ e) in
-      let g : find n xs < length xs = omega arith in
-      one (find n xs) g (stands g)
-
-  pub find-nowhere : (getD xs k 0 ≡ n → ⊥) → length xs ≡ find n xs
-  find-nowhere f =
-      by-test (ltb (find n xs) (length xs))
-      (λ e. let g = ltb-true _ _ e in let s = stands g in absurd (f (rw (one (find n xs) g s) s)))
-      (λ e. let l = first-le (λ m. eqb m n) xs in omega (arith, ltb-false))
-
--- ---- the code's tables
+-- ---- the stems
 abbrev pub codes : List ℕ
 codes = map packed stemNames
 
-abbrev pub familyTable : List ℕ
-familyTable = map (λ (s : Stem). s .family) stems ++ (12 ∷ [])
+pub place-le : (t : List ℕ) → place stemNames t ≤ 70
+unfolding stemNames stems
+place-le t = first-le (λ u. same u t) stemNames
 
-pub families-right : (k : ℕ) → k ≤ 70 → (getD familyTable k 0 ≡ stemAt k .family) × (getD familyTable k 0 ≤ 12)
-unfolding stems
-families-right k h =
-    let e = at (λ k. eqb (getD familyTable k 0) (stemAt k .family) && leb (getD familyTable k 0) 12) 71 refl k (omega arith) in
-    (eqb-true _ _ (and-left (eqb (getD familyTable k 0) (stemAt k .family)) (leb (getD familyTable k 0) 12) e), leb-true _ _ (and-right (eqb (getD familyTable k 0) (stemAt k .family)) (leb (getD familyTable k 0) 12) e))
+-- the parts of what stem k says; and it is below 12 * 2 ^ 28 for a stem alone
+module _ (k : ℕ) (h : k ≤ 70) where
+  pub head-family : headNumber k / 2 ^ 28 ≡ stemAt k .family
+  unfolding stems
+  head-family = eqb-true _ _ (at (λ k. eqb (headNumber k / 2 ^ 28) (stemAt k .family)) 71 refl k (omega arith))
 
-abbrev pub bitsTable : List ℕ
-bitsTable = map (λ (s : Stem). s .bits) stems ++ (0 ∷ [])
+  pub head-bits : headNumber k % 2 ^ 28 ≡ stemAt k .bits
+  unfolding stems
+  head-bits = eqb-true _ _ (at (λ k. eqb (headNumber k % 2 ^ 28) (stemAt k .bits)) 71 refl k (omega arith))
 
-pub bits-right : (k : ℕ) → k ≤ 70 → (getD bitsTable k 0 ≡ stemAt k .bits) × (getD bitsTable k 0 < 2 ^ 25)
-unfolding stems
-bits-right k h =
-    let e = at (λ k. eqb (getD bitsTable k 0) (stemAt k .bits) && ltb (getD bitsTable k 0) (2 ^ 25)) 71 refl k (omega arith) in
-    (eqb-true _ _ (and-left (eqb (getD bitsTable k 0) (stemAt k .bits)) (ltb (getD bitsTable k 0) (2 ^ 25)) e), ltb-true _ _ (and-right (eqb (getD bitsTable k 0) (stemAt k .bits)) (ltb (getD bitsTable k 0) (2 ^ 25)) e))
+  pub head-small : (headNumber k / 2 ^ 28 ≤ 12) × (headNumber k % 2 ^ 28 < 2 ^ 25)
+  unfolding stems
+  head-small = (
+    leb-true _ _ (at (λ k. leb (headNumber k / 2 ^ 28) 12) 71 refl k (omega arith)),
+    ltb-true _ _ (at (λ k. ltb (headNumber k % 2 ^ 28) (2 ^ 25)) 71 refl k (omega arith)),
+  )
 
--- the slots, eight to a number
-abbrev pub groups : List ℕ
-groups =
-    0x0000000000000000 ∷ 0x0000000000000200 ∷ 0x00000c000000003e ∷ 0x000000000b000000 ∷ 0x230000002c000000 ∷ 0x0000000000000000 ∷
-    0x0000000000000000 ∷ 0x2e00001a00000000 ∷ 0x0000000000000000 ∷ 0x0000002700001400 ∷ 0x0000000000000000 ∷ 0x0000110000000000 ∷
-    0x00000000421c0000 ∷ 0x0000000000000029 ∷ 0x0000430000000000 ∷ 0x00000a0000000000 ∷ 0x4100000000000000 ∷ 0x1000000000000000 ∷
-    0x0000000000170000 ∷ 0x0000000000000000 ∷ 0x0000000000000000 ∷ 0x0000000000000021 ∷ 0x0000350039000000 ∷ 0x0000000000000000 ∷
-    0x000000002b000000 ∷ 0x000e00001b000000 ∷ 0x0000000044000000 ∷ 0x2d00000004000000 ∷ 0x0000000000000000 ∷ 0x01000000003d0000 ∷
-    0x0000000034000000 ∷ 0x0000000000000000 ∷ 0x0000000000000000 ∷ 0x0000000038003c00 ∷ 0x0000160030001500 ∷ 0x2500000000000000 ∷
-    0x0000000700000000 ∷ 0x0022000000001900 ∷ 0x0000000000000000 ∷ 0x00002f0000000000 ∷ 0x0000000000000000 ∷ 0x0000000000000000 ∷
-    0x0000000000000000 ∷ 0x00000f0032130000 ∷ 0x0000001d00004000 ∷ 0x0020000000001200 ∷ 0x0000180000000000 ∷ 0x0000000800000000 ∷
-    0x0000330000000009 ∷ 0x0000000000000000 ∷ 0x0000000000000000 ∷ 0x0028000000000000 ∷ 0x06002600051f0000 ∷ 0x0000000000000000 ∷
-    0x0000000000000000 ∷ 0x3b0000000d2a001e ∷ 0x0000000000003700 ∷ 0x0000000045000000 ∷ 0x0000000000000000 ∷ 0x003f000000000000 ∷
-    0x0000240000000000 ∷ 0x3a00310300000000 ∷ 0x0000000000003600 ∷ []
+  pub is-stem : headNumber k < 12 * 2 ^ 28 → k < 70
+  unfolding stems
+  is-stem l =
+      by-test (eqb k 70)
+      (λ e. let z : headNumber 70 < 12 * 2 ^ 28 = rw (eqb-true k 70 e) at l in absurd (lt-irrefl _ z))
+      (λ e. let n = eqb-false k 70 e in omega arith)
 
-abbrev pub slotAt : ℕ → ℕ
-slotAt i = getD groups (i / 8) 0 / 2 ^ (8 * (i % 8)) % 256
+  pub no-stem : 12 * 2 ^ 28 ≤ headNumber k → 70 ≤ k
+  unfolding stems
+  no-stem l =
+      by-test (ltb k 70)
+      (λ e. let z = ltb-true _ _ (at (λ k. ltb (headNumber k) (12 * 2 ^ 28)) 70 refl k (ltb-true _ _ e)) in absurd (lt-irrefl _ (lt-of-le-of-lt l z)))
+      (λ e. omega (arith, ltb-false))
 
-pub slot-lt : (i : ℕ) → i < 498 → slotAt i < 70
-slot-lt i h = ltb-true _ _ (at (λ i. ltb (slotAt i) 70) 498 refl i h)
-
-pub slot-right : (k : ℕ) → k < 70 → slotAt (getD codes k 0 % 498) ≡ k
-unfolding stemNames stems packed
-slot-right k h = eqb-true _ _ (at (λ k. eqb (slotAt (getD codes k 0 % 498)) k) 70 refl k h)
+-- a word's number, looked up, tells its stem
+pub head-found : (t : List ℕ) → Bytes t → (r : ℕ) → r ≡ headNumber (find (packed t) codes) →
+    (r ≡ headNumber (place stemNames t)) × (r / 2 ^ 28 ≤ 12) × (r % 2 ^ 28 < 2 ^ 25)
+head-found t h r e =
+    let q : r ≡ headNumber (place stemNames t) = rw (stem-found t h) at e in
+    rw q (refl, head-small (place stemNames t) (place-le t) .0, head-small (place stemNames t) (place-le t) .1)

@@ -1,337 +1,124 @@
-// The mnemonics, and what the first word of a line says by them.
-ghost use mathlib.Core.Path.{_≡_};
+// The mnemonics, and what each says: as one number, the family in the top digit, the bits in the others. A `match`, since an array would be copied at each
+// call.
 ghost use mathlib.Core.List.{map};
-ghost use Prim.Native.Nat.{ℕ, _≤_, _<_, _^_};
-ghost use lib.ListN.{getD};
-ghost use Rattle.arm_lowest.specs.Heads.{stemNames, stemAt};
-ghost use Rattle.common.specs.Lists.{place};
+ghost use mathlib.Core.Path.{_≡_};
+ghost use Prim.Native.Nat.{_≤_, _<_, _/_, _%_, _^_};
+ghost use Rattle.arm_lowest.specs.Heads.{stemNames};
+ghost use Rattle.arm_read.specs.Stems.{headNumber};
+ghost use Rattle.common.specs.Lists.{find, place};
 ghost use Rattle.text.specs.Word.{packed};
 use text::read::pack;
 
-// The mnemonics without their conditions, packed.
-const STEMS: [u64; 70] = [
-    0x646e61,
-    0x726f65,
-    0x627573,
-    0x627372,
-    0x646461,
-    0x636461,
-    0x636273,
-    0x637372,
-    0x747374,
-    0x716574,
-    0x706d63,
-    0x6e6d63,
-    0x72726f,
-    0x766f6d,
-    0x636962,
-    0x6e766d,
-    0x73646e61,
-    0x73726f65,
-    0x73627573,
-    0x73627372,
-    0x73646461,
-    0x73636461,
-    0x73636273,
-    0x73637372,
-    0x7372726f,
-    0x73766f6d,
-    0x73636962,
-    0x736e766d,
-    0x62,
-    0x6c62,
-    0x7862,
-    0x72646c,
-    0x7472646c,
-    0x6272646c,
-    0x746272646c,
-    0x727473,
-    0x74727473,
-    0x62727473,
-    0x7462727473,
-    0x62696d646c,
-    0x61696d646c,
-    0x62646d646c,
-    0x61646d646c,
-    0x62696d7473,
-    0x61696d7473,
-    0x62646d7473,
-    0x61646d7473,
-    0x73726d,
-    0x72736d,
-    0x6c756d,
-    0x736c756d,
-    0x616c6d,
-    0x73616c6d,
-    0x6c6c756d75,
-    0x736c6c756d75,
-    0x6c616c6d75,
-    0x736c616c6d75,
-    0x6c6c756d73,
-    0x736c6c756d73,
-    0x6c616c6d73,
-    0x736c616c6d73,
-    0x6872646c,
-    0x627372646c,
-    0x687372646c,
-    0x68727473,
-    0x6273727473,
-    0x6873727473,
-    0x697773,
-    0x707773,
-    0x62707773,
-];
-
-// The family of each, and of none.
-const FAMILIES: [u8; 71] = [
-    0,
-    0,
-    0,
-    0,
-    0,
-    0,
-    0,
-    0,
-    0,
-    0,
-    0,
-    0,
-    0,
-    0,
-    0,
-    0,
-    0,
-    0,
-    0,
-    0,
-    0,
-    0,
-    0,
-    0,
-    0,
-    0,
-    0,
-    0,
-    1,
-    1,
-    2,
-    3,
-    3,
-    3,
-    3,
-    3,
-    3,
-    3,
-    3,
-    4,
-    4,
-    4,
-    4,
-    4,
-    4,
-    4,
-    4,
-    5,
-    6,
-    7,
-    7,
-    7,
-    7,
-    8,
-    8,
-    8,
-    8,
-    8,
-    8,
-    8,
-    8,
-    9,
-    9,
-    9,
-    9,
-    9,
-    9,
-    10,
-    11,
-    11,
-    12,
-];
-
-// The bits that each says, and none.
-const BITS: [u32; 71] = [
-    0x00000000,
-    0x00200000,
-    0x00400000,
-    0x00600000,
-    0x00800000,
-    0x00a00000,
-    0x00c00000,
-    0x00e00000,
-    0x01000000,
-    0x01200000,
-    0x01400000,
-    0x01600000,
-    0x01800000,
-    0x01a00000,
-    0x01c00000,
-    0x01e00000,
-    0x00100000,
-    0x00300000,
-    0x00500000,
-    0x00700000,
-    0x00900000,
-    0x00b00000,
-    0x00d00000,
-    0x00f00000,
-    0x01900000,
-    0x01b00000,
-    0x01d00000,
-    0x01f00000,
-    0x00000000,
-    0x01000000,
-    0x00000000,
-    0x00100000,
-    0x00300000,
-    0x00500000,
-    0x00700000,
-    0x00000000,
-    0x00200000,
-    0x00400000,
-    0x00600000,
-    0x01900000,
-    0x00900000,
-    0x01100000,
-    0x00100000,
-    0x01800000,
-    0x00800000,
-    0x01000000,
-    0x00000000,
-    0x00000000,
-    0x00000000,
-    0x00000000,
-    0x00100000,
-    0x00200000,
-    0x00300000,
-    0x00000000,
-    0x00100000,
-    0x00200000,
-    0x00300000,
-    0x00400000,
-    0x00500000,
-    0x00600000,
-    0x00700000,
-    0x00100020,
-    0x00100040,
-    0x00100060,
-    0x00000020,
-    0x00000040,
-    0x00000060,
-    0x00000000,
-    0x00000000,
-    0x00400000,
-    0x00000000,
-];
-
-// The mnemonics by their slots, eight to a number: a name's slot is its packed number modulo 498, and no two have the same.
-const SLOTS: [u64; 63] = [
-    0x0000_0000_0000_0000,
-    0x0000_0000_0000_0200,
-    0x0000_0c00_0000_003e,
-    0x0000_0000_0b00_0000,
-    0x2300_0000_2c00_0000,
-    0x0000_0000_0000_0000,
-    0x0000_0000_0000_0000,
-    0x2e00_001a_0000_0000,
-    0x0000_0000_0000_0000,
-    0x0000_0027_0000_1400,
-    0x0000_0000_0000_0000,
-    0x0000_1100_0000_0000,
-    0x0000_0000_421c_0000,
-    0x0000_0000_0000_0029,
-    0x0000_4300_0000_0000,
-    0x0000_0a00_0000_0000,
-    0x4100_0000_0000_0000,
-    0x1000_0000_0000_0000,
-    0x0000_0000_0017_0000,
-    0x0000_0000_0000_0000,
-    0x0000_0000_0000_0000,
-    0x0000_0000_0000_0021,
-    0x0000_3500_3900_0000,
-    0x0000_0000_0000_0000,
-    0x0000_0000_2b00_0000,
-    0x000e_0000_1b00_0000,
-    0x0000_0000_4400_0000,
-    0x2d00_0000_0400_0000,
-    0x0000_0000_0000_0000,
-    0x0100_0000_003d_0000,
-    0x0000_0000_3400_0000,
-    0x0000_0000_0000_0000,
-    0x0000_0000_0000_0000,
-    0x0000_0000_3800_3c00,
-    0x0000_1600_3000_1500,
-    0x2500_0000_0000_0000,
-    0x0000_0007_0000_0000,
-    0x0022_0000_0000_1900,
-    0x0000_0000_0000_0000,
-    0x0000_2f00_0000_0000,
-    0x0000_0000_0000_0000,
-    0x0000_0000_0000_0000,
-    0x0000_0000_0000_0000,
-    0x0000_0f00_3213_0000,
-    0x0000_001d_0000_4000,
-    0x0020_0000_0000_1200,
-    0x0000_1800_0000_0000,
-    0x0000_0008_0000_0000,
-    0x0000_3300_0000_0009,
-    0x0000_0000_0000_0000,
-    0x0000_0000_0000_0000,
-    0x0028_0000_0000_0000,
-    0x0600_2600_051f_0000,
-    0x0000_0000_0000_0000,
-    0x0000_0000_0000_0000,
-    0x3b00_0000_0d2a_001e,
-    0x0000_0000_0000_3700,
-    0x0000_0000_4500_0000,
-    0x0000_0000_0000_0000,
-    0x003f_0000_0000_0000,
-    0x0000_2400_0000_0000,
-    0x3a00_3103_0000_0000,
-    0x0000_0000_0000_3600,
-];
-
-// The one mnemonic that a packed name may be.
-fn slot(n: u64) -> usize
-    ensures { λ r. ⌜ (r < 70) × ((k : ℕ) → k < 70 → getD (map packed stemNames) k 0 ≡ n → r ≡ k) ⌝ }
+// Mnemonics of at most three letters, packed.
+fn short_head(n: u64) -> u32
+    requires { ⌜ n < 2 ^ 24 ⌝ }
+    ensures { λ r. ⌜ r ≡ headNumber (find n (map packed stemNames)) ⌝ }
 {
-    let i = n % 498;
-    let group = SLOTS[(i / 8) as usize];
-    ((group >> (8 * (i % 8))) % 256) as usize
+    match n {
+        0x64_6e61 => 0x0000_0000, // and
+        0x72_6f65 => 0x0020_0000, // eor
+        0x62_7573 => 0x0040_0000, // sub
+        0x62_7372 => 0x0060_0000, // rsb
+        0x64_6461 => 0x0080_0000, // add
+        0x63_6461 => 0x00a0_0000, // adc
+        0x63_6273 => 0x00c0_0000, // sbc
+        0x63_7372 => 0x00e0_0000, // rsc
+        0x74_7374 => 0x0100_0000, // tst
+        0x71_6574 => 0x0120_0000, // teq
+        0x70_6d63 => 0x0140_0000, // cmp
+        0x6e_6d63 => 0x0160_0000, // cmn
+        0x72_726f => 0x0180_0000, // orr
+        0x76_6f6d => 0x01a0_0000, // mov
+        0x63_6962 => 0x01c0_0000, // bic
+        0x6e_766d => 0x01e0_0000, // mvn
+        0x62 => 0x1000_0000, // b
+        0x6c62 => 0x1100_0000, // bl
+        0x7862 => 0x2000_0000, // bx
+        0x72_646c => 0x3010_0000, // ldr
+        0x72_7473 => 0x3000_0000, // str
+        0x73_726d => 0x5000_0000, // mrs
+        0x72_736d => 0x6000_0000, // msr
+        0x6c_756d => 0x7000_0000, // mul
+        0x61_6c6d => 0x7020_0000, // mla
+        0x69_7773 => 0xa000_0000, // swi
+        0x70_7773 => 0xb000_0000, // swp
+        _ => 0xc000_0000,
+    }
 }
 
-// Which mnemonic a word is, or 70.
-pub fn stem_place(w: &[u8]) -> usize
-    ensures { λ r. ⌜ (r ≡ place stemNames (now (w .entry))) × (r ≤ 70) ⌝ }
+// Of four letters.
+fn four_head(n: u64) -> u32
+    requires { ⌜ (2 ^ 24 ≤ n) × (n < 2 ^ 32) ⌝ }
+    ensures { λ r. ⌜ r ≡ headNumber (find n (map packed stemNames)) ⌝ }
+{
+    match n {
+        0x7364_6e61 => 0x0010_0000, // ands
+        0x7372_6f65 => 0x0030_0000, // eors
+        0x7362_7573 => 0x0050_0000, // subs
+        0x7362_7372 => 0x0070_0000, // rsbs
+        0x7364_6461 => 0x0090_0000, // adds
+        0x7363_6461 => 0x00b0_0000, // adcs
+        0x7363_6273 => 0x00d0_0000, // sbcs
+        0x7363_7372 => 0x00f0_0000, // rscs
+        0x7372_726f => 0x0190_0000, // orrs
+        0x7376_6f6d => 0x01b0_0000, // movs
+        0x7363_6962 => 0x01d0_0000, // bics
+        0x736e_766d => 0x01f0_0000, // mvns
+        0x7472_646c => 0x3030_0000, // ldrt
+        0x6272_646c => 0x3050_0000, // ldrb
+        0x7472_7473 => 0x3020_0000, // strt
+        0x6272_7473 => 0x3040_0000, // strb
+        0x736c_756d => 0x7010_0000, // muls
+        0x7361_6c6d => 0x7030_0000, // mlas
+        0x6872_646c => 0x9010_0020, // ldrh
+        0x6872_7473 => 0x9000_0020, // strh
+        0x6270_7773 => 0xb040_0000, // swpb
+        _ => 0xc000_0000,
+    }
+}
+
+// Of five and six.
+fn long_head(n: u64) -> u32
+    requires { ⌜ 2 ^ 32 ≤ n ⌝ }
+    ensures { λ r. ⌜ r ≡ headNumber (find n (map packed stemNames)) ⌝ }
+{
+    match n {
+        0x74_6272_646c => 0x3070_0000, // ldrbt
+        0x74_6272_7473 => 0x3060_0000, // strbt
+        0x62_696d_646c => 0x4190_0000, // ldmib
+        0x61_696d_646c => 0x4090_0000, // ldmia
+        0x62_646d_646c => 0x4110_0000, // ldmdb
+        0x61_646d_646c => 0x4010_0000, // ldmda
+        0x62_696d_7473 => 0x4180_0000, // stmib
+        0x61_696d_7473 => 0x4080_0000, // stmia
+        0x62_646d_7473 => 0x4100_0000, // stmdb
+        0x61_646d_7473 => 0x4000_0000, // stmda
+        0x6c_6c75_6d75 => 0x8000_0000, // umull
+        0x736c_6c75_6d75 => 0x8010_0000, // umulls
+        0x6c_616c_6d75 => 0x8020_0000, // umlal
+        0x736c_616c_6d75 => 0x8030_0000, // umlals
+        0x6c_6c75_6d73 => 0x8040_0000, // smull
+        0x736c_6c75_6d73 => 0x8050_0000, // smulls
+        0x6c_616c_6d73 => 0x8060_0000, // smlal
+        0x736c_616c_6d73 => 0x8070_0000, // smlals
+        0x62_7372_646c => 0x9010_0040, // ldrsb
+        0x68_7372_646c => 0x9010_0060, // ldrsh
+        0x62_7372_7473 => 0x9000_0040, // strsb
+        0x68_7372_7473 => 0x9000_0060, // strsh
+        _ => 0xc000_0000,
+    }
+}
+
+// What a word says as a mnemonic.
+pub fn head_of(w: &[u8]) -> u32
+    ensures { λ r. ⌜ (r ≡ headNumber (place stemNames (now (w .entry)))) × (r / 2 ^ 28 ≤ 12) × (r % 2 ^ 28 < 2 ^ 25) ⌝ }
 {
     let n = pack(w);
-    let k = slot(n);
-    if STEMS[k] == n {
-        return k;
+    if n < 0x0100_0000 {
+        return short_head(n);
     }
-    70
-}
-
-// The family of a mnemonic.
-pub fn family_at(k: usize) -> u8
-    requires { ⌜ k ≤ 70 ⌝ }
-    ensures { λ r. ⌜ (r ≡ stemAt k .family) × (r ≤ 12) ⌝ }
-{
-    FAMILIES[k]
-}
-
-// The bits that it says.
-pub fn bits_at(k: usize) -> u64
-    requires { ⌜ k ≤ 70 ⌝ }
-    ensures { λ r. ⌜ (r ≡ stemAt k .bits) × (r < 2 ^ 25) ⌝ }
-{
-    BITS[k] as u64
+    if n < 0x1_0000_0000 {
+        return four_head(n);
+    }
+    long_head(n)
 }

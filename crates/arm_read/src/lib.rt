@@ -1,20 +1,17 @@
 // Reading an ARM line back: the lowest word that prints it. A candidate is taken from the line's words and marks, printed, and compared with the line.
 ghost use mathlib.Core.Path.{_≡_};
-ghost use Prim.Native.Nat.{_≤_, _<_, _^_, _%_};
+ghost use Prim.Native.Nat.{_≤_, _<_, _^_, _/_, _%_};
 ghost use lib.ListN.{getD};
 ghost use Rattle.arm_disass.specs.Print.{armLine};
 ghost use Rattle.arm_lowest.specs.Candidate.{candidate, families};
 ghost use Rattle.arm_lowest.specs.CandidateSimple.{undefinedCand};
-ghost use Rattle.arm_lowest.specs.Heads.{stemAt};
 ghost use Rattle.reading.specs.Read.{isLine};
 ghost use Rattle.arm_read.specs.Answer.{readAnswer};
 use arm_disass::print_arm;
 use arm7tdmi::Form;
 use arm7tdmi::arm::read_cond;
 use data_processing::dp_candidate;
-use heads::bits_at;
-use heads::family_at;
-use heads::stem_place;
+use heads::head_of;
 use simple::branch_candidate;
 use simple::bx_candidate;
 use simple::mrs_candidate;
@@ -44,7 +41,7 @@ pub enum ArmRead {
 }
 
 // The candidate of a family.
-fn by_family(form: Form, pc: u32, family: u8, b: u64, c: u64, line: &[u8]) -> u64
+fn by_family(form: Form, pc: u32, family: u32, b: u64, c: u64, line: &[u8]) -> u64
     requires { ⌜ (family ≤ 12) × (b < 2 ^ 25) × (c ≤ 15) ⌝ }
     ensures { λ r. ⌜ r ≡ getD families family undefinedCand form pc b c (now (line .entry)) ⌝ }
 {
@@ -65,12 +62,14 @@ fn by_family(form: Form, pc: u32, family: u8, b: u64, c: u64, line: &[u8]) -> u6
     }
 }
 
-// The candidate of a mnemonic and a condition.
-fn by_stem(form: Form, pc: u32, k: usize, c: u32, line: &[u8]) -> u32
-    requires { ⌜ (k ≤ 70) × (c ≤ 15) ⌝ }
-    ensures { λ r. ⌜ r ≡ getD families (stemAt k .family) undefinedCand form pc (stemAt k .bits) c (now (line .entry)) % 2 ^ 32 ⌝ }
+// The candidate of what a mnemonic says, and a condition.
+fn by_head(form: Form, pc: u32, head: u32, c: u32, line: &[u8]) -> u32
+    requires { ⌜ (head / 2 ^ 28 ≤ 12) × (head % 2 ^ 28 < 2 ^ 25) × (c ≤ 15) ⌝ }
+    ensures { λ r. ⌜ r ≡ getD families (head / 2 ^ 28) undefinedCand form pc (head % 2 ^ 28) c (now (line .entry)) % 2 ^ 32 ⌝ }
 {
-    (by_family(form, pc, family_at(k), bits_at(k), c as u64, line) % 0x1_0000_0000) as u32
+    let family = head / 0x1000_0000;
+    let b = (head % 0x1000_0000) as u64;
+    (by_family(form, pc, family, b, c as u64, line) % 0x1_0000_0000) as u32
 }
 
 // The candidate of a line: its first word is a mnemonic, or one with a condition behind it.
@@ -78,15 +77,15 @@ fn candidate_of(form: Form, pc: u32, line: &[u8]) -> u32
     ensures { λ r. ⌜ r ≡ candidate form pc (now (line .entry)) ⌝ }
 {
     let w = first_word(line);
-    let k = stem_place(w);
-    if k < 70 {
-        return by_stem(form, pc, k, 14, line);
+    let head = head_of(w);
+    if head < 0xc000_0000 {
+        return by_head(form, pc, head, 14, line);
     }
     if w.len() < 2 {
-        return by_stem(form, pc, stem_place(&w[..0]), read_cond(w), line);
+        return by_head(form, pc, head_of(&w[..0]), read_cond(w), line);
     }
     let n = w.len() - 2;
-    by_stem(form, pc, stem_place(&w[..n]), read_cond(&w[n..]), line)
+    by_head(form, pc, head_of(&w[..n]), read_cond(&w[n..]), line)
 }
 
 // Whether a word prints a line.

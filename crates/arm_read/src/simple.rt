@@ -2,7 +2,6 @@
 ghost use mathlib.Core.Path.{_≡_};
 ghost use mathlib.Core.Bool.{cond};
 ghost use Prim.Native.Nat.{ℕ, _≤_, _<_, _^_, _+_};
-ghost use lib.Dec.{eqb};
 ghost use Rattle.arm7tdmi.specs.Kinds.{undefinedBits};
 ghost use Rattle.arm7tdmi.specs.Names.{regNamed};
 ghost use Rattle.arm7tdmi.specs.declared.Form.{Form};

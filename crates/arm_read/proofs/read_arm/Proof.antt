@@ -1,10 +1,12 @@
 -- `arm_read::read_arm` meets its contract. Assumes nothing.
 use borrow.Author.Needs.{needs}
 use denote.Ref.{now}
+use mathlib.Core.Path.{_∙_, ap}
 use native.Mathlib.Omega.{arith}
 use Rattle.arm_disass.specs.Print.{armLine}
 use Rattle.arm_lowest.specs.Candidate.{candidate}
 use Rattle.arm_read.proofs.Lines.{arm-sound, not-line, nothing-read, word-read}
+use Rattle.arm_read.specs.declared.ArmRead.the-variants.{Word}
 use Rattle.arm_read.proofs.read_arm.Statement.{statement}
 use Rattle.arm_read.proofs.read_arm.Tie as tie
 
@@ -26,7 +28,8 @@ returns-3 : tie.Need-returns-3
 returns-3 c =
     let a = c .before .before .before .before .before .before .args in
     let l = now (a .line) in
-    rw (c .before .before .candidate-of .ensures) (word-read (a .form) (a .address) (search needs) l (rw (← c .before .before .candidate-of .ensures, ← c .before .prints .ensures) (c .if3 .taken)))
+    ap Word (c .before .before .candidate-of .ensures)
+    ∙ word-read (a .form) (a .address) (search needs) l (rw (← c .before .before .candidate-of .ensures, ← c .before .prints .ensures) (c .if3 .taken))
 
 returns-4 : tie.Need-returns-4
 returns-4 c =
