@@ -25,7 +25,7 @@ const WORDS: usize = 1 << 20;
 /// Words that are timed at once: few, so that some pass is not interrupted.
 const CHUNK: usize = 1 << 14;
 
-/// Rows for the row programs.
+/// Rows for the row programs, and lines to read.
 const ROWS: usize = 1 << 18;
 
 /// The least seconds of ours and of the Rust's.
@@ -138,6 +138,32 @@ fn thumb_operations(order: &str, list: &[(u16, u32)]) {
     }
 }
 
+/// Measures the read of the lines of some words, beside their print.
+fn reads<W: Copy, R>(
+    set: &str,
+    list: &[(W, u32)],
+    print: fn(u32, W, u32, &mut [u8]) -> (u32, usize),
+    read: fn(u32, u32, &[u8]) -> R,
+) {
+    let mut buffer = [0; 128];
+    for (form, name) in [(BENCH, "bench"), (SHEET, "sheet")] {
+        let lines: Vec<Vec<u8>> = list
+            .iter()
+            .map(|&(word, address)| {
+                let length = print(form, word, address, &mut buffer).1;
+                buffer[..length].to_vec()
+            })
+            .collect();
+        let places: Vec<(usize, u32)> = (0..list.len()).map(|i| (i, list[i].1)).collect();
+        operation(
+            &format!("{set} | {name}"),
+            &places,
+            |i, address| _ = black_box(read(form, address, &lines[i])),
+            |i, address| _ = black_box(print(form, list[i].0, address, &mut buffer)),
+        );
+    }
+}
+
 /// Runs a row program over a file of rows.
 fn run(program: &str, rows: &Path) {
     let status = Command::new(program)
@@ -177,6 +203,11 @@ fn main() -> io::Result<()> {
     arm_operations(&arm);
     thumb_operations("in order", &thumb);
     thumb_operations("random", &mixed);
+
+    println!("\n| set, order | form | read, ns | print, ns | read / print |");
+    println!("|---|---|---|---|---|");
+    reads("ARM, random", &arm[..ROWS], silk::print_arm, silk::read_arm);
+    reads("Thumb, random", &mixed[..ROWS], silk::print_thumb, silk::read_thumb);
 
     let programs: Vec<String> = env::args().skip(1).collect();
     let [ours, rust] = &programs[..] else {

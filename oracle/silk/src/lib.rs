@@ -21,6 +21,20 @@ mod c {
             capacity: usize,
             length: *mut usize,
         ) -> u32;
+        pub fn silk_read_arm(
+            form: u32,
+            address: u32,
+            line: *const u8,
+            length: usize,
+            word: *mut u32,
+        ) -> u32;
+        pub fn silk_read_thumb(
+            form: u32,
+            address: u32,
+            line: *const u8,
+            length: usize,
+            word: *mut u16,
+        ) -> u32;
     }
 }
 
@@ -46,6 +60,22 @@ pub fn print_thumb(form: u32, word: u16, address: u32, line: &mut [u8]) -> (u32,
     // SAFETY: the buffer and the length are lent for the call alone.
     let number = unsafe { c::silk_print_thumb(form, word, address, start, capacity, &mut length) };
     (number, length)
+}
+
+/// Lends the line; gives the number and the word.
+pub fn read_arm(form: u32, address: u32, line: &[u8]) -> (u32, u32) {
+    let mut word = u32::MAX;
+    // SAFETY: the line and the word are lent for the call alone.
+    let number = unsafe { c::silk_read_arm(form, address, line.as_ptr(), line.len(), &mut word) };
+    (number, word)
+}
+
+/// The same for a Thumb line.
+pub fn read_thumb(form: u32, address: u32, line: &[u8]) -> (u32, u16) {
+    let mut word = u16::MAX;
+    // SAFETY: the line and the word are lent for the call alone.
+    let number = unsafe { c::silk_read_thumb(form, address, line.as_ptr(), line.len(), &mut word) };
+    (number, word)
 }
 
 /// splitmix64: the random number at a place of its sequence.
