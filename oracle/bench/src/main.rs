@@ -207,7 +207,12 @@ fn main() -> io::Result<()> {
     println!("\n| set, order | form | read, ns | print, ns | read / print |");
     println!("|---|---|---|---|---|");
     reads("ARM, random", &arm[..ROWS], silk::print_arm, silk::read_arm);
-    reads("Thumb, random", &mixed[..ROWS], silk::print_thumb, silk::read_thumb);
+    reads(
+        "Thumb, random",
+        &mixed[..ROWS],
+        silk::print_thumb,
+        silk::read_thumb,
+    );
 
     let programs: Vec<String> = env::args().skip(1).collect();
     let [ours, rust] = &programs[..] else {
