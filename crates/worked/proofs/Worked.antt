@@ -1,21 +1,52 @@
 -- The worked lines are what the definitions give. Assumes nothing.
-use mathlib.Core.List.{map}
-use mathlib.Core.Path.{_≡_, refl}
+use mathlib.Core.Bool.{cond}
+use mathlib.Core.List.{List, [], _∷_, map}
+use mathlib.Core.Path.{_≡_, _∙_, refl}
+use Prim.Native.Nat.{_^_}
+use native.Mathlib.Omega.{arith}
 use Rattle.arm7tdmi.specs.Alu.{aluOpCode, barrelShiftOpCode}
 use Rattle.arm7tdmi.specs.Arm as Arm
 use Rattle.arm7tdmi.specs.Kinds.{armRows, thumbRows}
-use Rattle.arm7tdmi.specs.Names.{regNames, regString, condNames, condText}
+use Rattle.arm7tdmi.specs.Names.{condNamed, condNames, condText, regNamed, regNames, regString}
 use Rattle.arm7tdmi.specs.Pieces.{regAt, condAt, either, ifSet, setBits, registers, listed}
 use Rattle.arm7tdmi.specs.Signed.{extended}
 use Rattle.arm7tdmi.specs.Thumb as Thumb
 use Rattle.arm_disass.specs.Line as ALine
 use Rattle.arm_disass.specs.Print as APrint
-use Rattle.common.specs.Lists.{first}
-use Rattle.text.specs.Digits.{digits, hex, prefixed, dec}
+use Rattle.common.specs.Lists.{first, same}
+use Rattle.text.specs.Digits.{digitValue, digits, hex, prefixed, dec, valueFrom}
 use Rattle.thumb_disass.specs.Line as TLine
 use Rattle.thumb_disass.specs.Print as TPrint
-use Rattle.worked.specs.Worked.{printedRow, table}
+use Rattle.arm7tdmi.specs.declared.Form.{Form}
+use Rattle.arm7tdmi.specs.declared.Form.the-variants.{Bench, Sheet}
+use Rattle.arm_lowest.proofs.Read.{read-arm}
+use Rattle.arm_lowest.specs.Candidate.{candidate}
+use Rattle.arm_lowest.specs.CandidateDataProcessing.{dpCand, dpFrom}
+use Rattle.arm_lowest.specs.CandidateOperand.{immediateOf, operandOf, rotationOf, shiftNamed, shiftNames, shiftedOf}
+use Rattle.arm_lowest.specs.CandidateSimple.{undefinedCand}
+use Rattle.arm_lowest.specs.Heads.{condOf, headOf, stemNames, stemOf, stems}
+use Rattle.reading.specs.Read.{isLine}
+use Rattle.text.specs.Word as Words
+use Rattle.worked.specs.Worked.{Input, Output, Row, arm, gives, givenRow, printed, read, table, thumb, word}
 
-pub worked : map printedRow table ≡ table
-unfolding aluOpCode barrelShiftOpCode Arm.armCond Arm.halfwordType Arm.branchOffset Arm.branchTarget Arm.bsOp Arm.shiftRegBy Arm.operand2 Arm.addedOf Arm.signedOffset Arm.ldrStrOffset armRows thumbRows regNames regString condNames condText regAt condAt either ifSet setBits registers listed extended Thumb.opFormat5 Thumb.sword7 ALine.opText ALine.byAmount ALine.shiftBy ALine.shiftedRegister ALine.bxCond ALine.fmtBx ALine.fmtBranch ALine.fmtOperand2 ALine.rdText ALine.fmtThree ALine.fmtOpcode ALine.fmtDataProcessing ALine.benchOffset ALine.magnitude ALine.sheetOffset ALine.immediateOffset ALine.signText ALine.signedRegister ALine.offsetText ALine.indexed ALine.commented ALine.valueComment ALine.comment ALine.fmtRnOffset ALine.userMark ALine.fmtLdrStr APrint.lineOf APrint.halfwordAnswer APrint.answerOf APrint.armLine first digits hex prefixed dec TLine.op5Text TLine.highDst TLine.dstReg TLine.srcReg TLine.dstAndSrc TLine.highOperands TLine.fmtThumbHighRegOpOrBx TLine.spSize TLine.spBits TLine.sheetSpOffset TLine.spOffset TLine.fmtThumbAddSp TLine.baseText TLine.fmtThumbLdmStm TPrint.lineOf TPrint.thumbLine
-worked = refl
+-- what they give, with the reader's law in place of the lowest word
+abbrev byLaw : Form → Input → Output
+byLaw form (arm w address) = gives form (arm w address)
+byLaw form (thumb w address) = gives form (thumb w address)
+byLaw form (read l) = word (cond (isLine (APrint.armLine form 0 (candidate form 0 l)) l) (candidate form 0 l) (2 ^ 32))
+
+law : (form : Form) (i : Input) → gives form i ≡ byLaw form i
+law form (arm w address) = refl
+law form (thumb w address) = refl
+law form (read l) = rw (read-arm form 0 (omega arith) l)
+
+rows-law : (l : List Row) → map (givenRow gives) l ≡ map (givenRow byLaw) l
+rows-law [] = refl
+rows-law (r ∷ l) = rw (law Bench (r .input), law Sheet (r .input), rows-law l)
+
+computed : map (givenRow byLaw) table ≡ table
+unfolding aluOpCode barrelShiftOpCode Arm.armCond Arm.halfwordType Arm.branchOffset Arm.branchTarget Arm.bsOp Arm.shiftRegBy Arm.operand2 Arm.addedOf Arm.signedOffset Arm.ldrStrOffset armRows thumbRows regNames regString condNames condText regAt condAt either ifSet setBits registers listed extended Thumb.opFormat5 Thumb.sword7 ALine.opText ALine.byAmount ALine.shiftBy ALine.shiftedRegister ALine.bxCond ALine.fmtBx ALine.fmtBranch ALine.fmtOperand2 ALine.rdText ALine.fmtThree ALine.fmtOpcode ALine.fmtDataProcessing ALine.benchOffset ALine.magnitude ALine.sheetOffset ALine.immediateOffset ALine.signText ALine.signedRegister ALine.offsetText ALine.indexed ALine.commented ALine.valueComment ALine.comment ALine.fmtRnOffset ALine.userMark ALine.fmtLdrStr APrint.lineOf APrint.halfwordAnswer APrint.answerOf APrint.armLine first digits hex prefixed dec TLine.op5Text TLine.highDst TLine.dstReg TLine.srcReg TLine.dstAndSrc TLine.highOperands TLine.fmtThumbHighRegOpOrBx TLine.spSize TLine.spBits TLine.sheetSpOffset TLine.spOffset TLine.fmtThumbAddSp TLine.baseText TLine.fmtThumbLdmStm TPrint.lineOf TPrint.thumbLine candidate dpCand dpFrom undefinedCand condOf headOf stemNames stemOf stems same regNamed condNamed digitValue valueFrom Words.isWord Words.word Words.behind Words.after Words.has ALine.fmtTest ALine.immediate ALine.decodedText immediateOf operandOf rotationOf shiftNamed shiftNames shiftedOf
+computed = refl
+
+pub worked : map (givenRow gives) table ≡ table
+worked = rows-law table ∙ computed

@@ -1,46 +1,62 @@
--- The worked lines of the scope paper that are marked as proved and give a word to be printed. Assumes nothing.
+-- The worked lines of the scope paper that are marked as proved. Assumes nothing.
 use mathlib.Core.List.{List, [], _∷_}
 use Prim.Native.Nat.{ℕ}
+use Prim.Native.String.{String}
 use Rattle.text.specs.Text.{text}
 use Rattle.arm7tdmi.specs.Answer.{Answer, refused, line}
 use Rattle.arm7tdmi.specs.declared.Form.{Form}
 use Rattle.arm7tdmi.specs.declared.Form.the-variants.{Bench, Sheet}
 use Rattle.arm_disass.specs.Print.{armLine}
+use Rattle.arm_lowest.specs.Read.{readArm}
 use Rattle.thumb_disass.specs.Print.{thumbLine}
 
--- an instruction word and its address
+-- "A row ending in "read" gives a line to be read, any other a word to be printed": a word and its address, or a line
 pub data Input : Type 0 where
   arm : ℕ → ℕ → Input
   thumb : ℕ → ℕ → Input
+  read : List ℕ → Input
+
+pub data Output : Type 0 where
+  printed : Answer → Output
+  word : ℕ → Output
 
 pub record Row : Type 0 where
   pub input : Input
-  pub bench : Answer
-  pub sheet : Answer
+  pub bench : Output
+  pub sheet : Output
 
--- what is printed for it
-abbrev pub prints : Form → Input → Answer
-prints form (arm word address) = armLine form address word
-prints form (thumb word address) = thumbLine form address word
+-- what the operations give for an input
+abbrev pub gives : Form → Input → Output
+gives form (arm w address) = printed (armLine form address w)
+gives form (thumb w address) = printed (thumbLine form address w)
+gives form (read l) = word (readArm form 0 l)
 
--- the row of what is printed in both forms
-abbrev pub printedRow : Row → Row
-printedRow r = record { input = r .input; bench = prints Bench (r .input); sheet = prints Sheet (r .input) }
+-- the row of what they give in both forms
+abbrev pub givenRow : (Form → Input → Output) → Row → Row
+givenRow f r = record { input = r .input; bench = f Bench (r .input); sheet = f Sheet (r .input) }
 
-abbrev row : Input → Answer → Answer → Row
+abbrev row : Input → Output → Output → Row
 row i b s = record { input = i; bench = b; sheet = s }
+
+abbrev shows : String → Output
+shows s = printed (line (text s))
+
+abbrev refuses : ℕ → Output
+refuses n = printed (refused n)
 
 -- "The set is ARM where the row names none, and the address is 0 where it names none."
 abbrev pub table : List Row
 table =
-    row (arm 0xE0821003 0) (line (text "add\tr2, r2, r3")) (line (text "add\tr1, r2, r3"))
-    ∷ row (arm 0xE5110004 0) (line (text "ldr\tr0, [r1, #4294967292]\t; 0xfffffffc")) (line (text "ldr\tr0, [r1, #-4]\t; 0xfffffffc"))
-    ∷ row (arm 0xE7910002 0) (line (text "<Undefined>")) (line (text "ldr\tr0, [r1, r2]"))
-    ∷ row (arm 0xEAFFFFFE 0x100) (line (text "b\t0x100")) (line (text "b\t0x100"))
-    ∷ row (arm 0xF12FFF10 0) (line (text "bx\tr0")) (refused 1)
-    ∷ row (arm 0xE1800090 0) (refused 2) (refused 2)
-    ∷ row (arm 0xF1800090 0) (refused 1) (refused 1)
-    ∷ row (thumb 0x4480 0) (line (text "add\tr0, r0")) (line (text "add\tr8, r0"))
-    ∷ row (thumb 0xC808 0) (line (text "ldm\tr1!, {r3}")) (line (text "ldm\tr0!, {r3}"))
-    ∷ row (thumb 0xB0FF 0) (line (text "add\tsp, #fffffe04")) (line (text "add\tsp, #-0x1fc"))
+    row (arm 0xE0821003 0) (shows "add\tr2, r2, r3") (shows "add\tr1, r2, r3")
+    ∷ row (arm 0xE5110004 0) (shows "ldr\tr0, [r1, #4294967292]\t; 0xfffffffc") (shows "ldr\tr0, [r1, #-4]\t; 0xfffffffc")
+    ∷ row (arm 0xE7910002 0) (shows "<Undefined>") (shows "ldr\tr0, [r1, r2]")
+    ∷ row (arm 0xEAFFFFFE 0x100) (shows "b\t0x100") (shows "b\t0x100")
+    ∷ row (arm 0xF12FFF10 0) (shows "bx\tr0") (refuses 1)
+    ∷ row (arm 0xE1800090 0) (refuses 2) (refuses 2)
+    ∷ row (arm 0xF1800090 0) (refuses 1) (refuses 1)
+    ∷ row (thumb 0x4480 0) (shows "add\tr0, r0") (shows "add\tr8, r0")
+    ∷ row (thumb 0xC808 0) (shows "ldm\tr1!, {r3}") (shows "ldm\tr0!, {r3}")
+    ∷ row (thumb 0xB0FF 0) (shows "add\tsp, #fffffe04") (shows "add\tsp, #-0x1fc")
+    ∷ row (read (text "tst\tpc, r0")) (word 0xE11F0000) (word 0xE11F0000)
+    ∷ row (read (text "<Undefined>")) (word 0x06000000) (word 0x06000010)
     ∷ []
