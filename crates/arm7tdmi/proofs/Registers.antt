@@ -1,13 +1,13 @@
 -- Lists of registers: what one more register adds to a list. Assumes nothing.
 use native.Mathlib.Numerals.{one-add}
-use Prim.Native.Nat.{_%_, _*_, _+_, _-_, _/_, _<_, _^_, suc, zero, ℕ}
-use borrow.Author.Tests.{eqb-false, eqb-true, ne-eqb}
-use lib.Dec.{eqb}
-use lib.Pow.{mod-pow-add, pow-pos}
+use Prim.Native.Nat.{_%_, _*_, _+_, _-_, _/_, _<_, _^_, _≤_, suc, zero, ℕ}
+use borrow.Author.Tests.{eqb-false, eqb-true, ltb-false, ltb-true, ne-eqb}
+use lib.Dec.{eqb, ltb}
+use lib.Pow.{mod-mod-pow, mod-pow-add, pow-mono, pow-pos, shr-shr}
 use mathlib.Core.Bool.{Bool, cond, false, true, true≢false}
 use mathlib.Core.List.{List, [], _++_, _∷_, append-assoc, append-nil, map}
 use mathlib.Core.Path.{_∙_, _≡_, refl, sym}
-use native.Mathlib.Nat.{div-one}
+use native.Mathlib.Nat.{add-zero, div-one, lt-of-lt-of-le, mod-eq-of-lt, mod-lt}
 use native.Mathlib.Numerals.{add-one}
 use native.Mathlib.Omega.{arith}
 use Rattle.arm7tdmi.specs.Names.{regString}
@@ -109,3 +109,30 @@ registers-none raw i e = rw (none-below raw i (sym (low-bits raw i) ∙ e))
 pub low-some : (raw i : ℕ) → (bitRange raw 0 i ≡ 0 → ⊥) → 0 < i
 low-some raw zero e = absurd (e (omega arith))
 low-some raw (suc i) e = omega arith
+
+-- ---- clear bits add nothing
+clear-bits : (raw i z : ℕ) → raw / 2 ^ i % 2 ^ z ≡ 0 → registers raw (i + z) ≡ registers raw i
+unfolding listed
+clear-bits raw i zero e = rw add-zero
+clear-bits raw i (suc z) e =
+    let h = low-zero (raw / 2 ^ i) z e in
+    let n : raw / 2 ^ (i + z) % 2 ≡ 0 = rw (shr-shr raw i z) at (h .1) in
+    let f : bit raw (i + z) ≡ false = ne-eqb (raw / 2 ^ (i + z) % 2) 1 (λ q. let o : _≡_ {A = ℕ} 0 1 = sym n ∙ q in omega arith) in
+    let k : i + suc z ≡ i + z + 1 = omega arith in
+    rw (k, registers-next raw (i + z), f, append-nil) (clear-bits raw i z (h .0))
+
+module _ (raw i n rest : ℕ) (h : i ≤ n) (b : rest ≡ bitRange raw i n) where
+  -- none is left
+  pub registers-left : rest ≡ 0 → registers raw n ≡ registers raw i
+  registers-left e = let k : i + (n - i) ≡ n = omega arith in rw k at (clear-bits raw i (n - i) (sym b ∙ e))
+
+  -- some are left, and the lowest z bits are clear
+  pub registers-pass : (z : ℕ) → (rest ≡ 0 → ⊥) → rest % 2 ^ z ≡ 0 → (i + z < n) × (registers raw (i + z) ≡ registers raw i)
+  registers-pass z f e =
+      by-test (ltb z (n - i))
+      (λ t. let l = ltb-true z (n - i) t in
+      let k : n - i ≡ n - i - z + z = omega arith in
+      let m : raw / 2 ^ i % 2 ^ z ≡ 0 = sym (mod-mod-pow (raw / 2 ^ i) (n - i - z) z) ∙ rw (← k, ← b) e in
+      (omega arith, clear-bits raw i z m))
+      (λ t. let l = ltb-false z (n - i) t in
+      absurd (f (sym (mod-eq-of-lt (rw b (lt-of-lt-of-le (mod-lt (raw / 2 ^ i) (pow-pos (n - i))) (pow-mono l)))) ∙ e)))

@@ -1,5 +1,8 @@
 // Writers of a word's fields, for ARM and Thumb lines.
+ghost use mathlib.Core.Bool.{cond};
+ghost use mathlib.Core.List.{[], _∷_};
 ghost use mathlib.Core.Path.{_≡_};
+ghost use Prim.Native.Nat.{_%_, _^_, _≤_};
 ghost use Rattle.text.specs.Wrote.{Wrote};
 ghost use Rattle.arm7tdmi.specs.Answer.{line, printed};
 ghost use Rattle.arm7tdmi.specs.Pieces.{regAt, condAt, either, ifSet, listed, registers};
@@ -8,6 +11,7 @@ use crate::arm::put_cond;
 use crate::bit::bit;
 use crate::bit::bit_range;
 use crate::put_reg;
+use text::put::put_if;
 use text::put::put_text;
 
 // The name of the register in bits a up to b.
@@ -24,24 +28,35 @@ pub fn put_cond_at(buf: &mut [u8], at: usize, raw: u32, a: u32, b: u32) -> usize
     put_cond(buf, at, bit_range(raw, a, b))
 }
 
-// A text where bit n is set.
-pub fn put_if(buf: &mut [u8], at: usize, raw: u32, n: u32, set: &[u8]) -> usize
-    ensures { λ r. ⌜ Wrote (now (buf .entry)) at (ifSet raw n (now (set .entry))) (now (buf .exit)) r ⌝ }
+// A byte where bit n is set.
+pub fn put_mark(buf: &mut [u8], at: usize, raw: u32, n: u32, mark: u8) -> usize
+    ensures { λ r. ⌜ Wrote (now (buf .entry)) at (ifSet raw n (mark ∷ [])) (now (buf .exit)) r ⌝ }
 {
-    if bit(raw, n) {
-        return put_text(buf, at, set);
+    put_if(buf, at, bit(raw, n), mark)
+}
+
+// One text or another.
+fn chosen<'a>(b: bool, set: &'a [u8], clear: &'a [u8]) -> &'a [u8]
+    ensures { λ r. ⌜ now r ≡ cond «b» (now (set .entry)) (now (clear .entry)) ⌝ }
+{
+    if b {
+        return set;
     }
-    at
+    clear
 }
 
 // One text where bit n is set, and another where it is clear.
-pub fn put_either(buf: &mut [u8], at: usize, raw: u32, n: u32, set: &[u8], clear: &[u8]) -> usize
+pub fn put_either<'a>(
+    buf: &mut [u8],
+    at: usize,
+    raw: u32,
+    n: u32,
+    set: &'a [u8],
+    clear: &'a [u8],
+) -> usize
     ensures { λ r. ⌜ Wrote (now (buf .entry)) at (either raw n (now (set .entry)) (now (clear .entry))) (now (buf .exit)) r ⌝ }
 {
-    if bit(raw, n) {
-        return put_text(buf, at, set);
-    }
-    put_text(buf, at, clear)
+    put_text(buf, at, chosen(bit(raw, n), set, clear))
 }
 
 // Register i of a list, with a comma before it where a lower one is in the list.
@@ -58,15 +73,36 @@ fn put_listed(buf: &mut [u8], at: usize, raw: u32, i: u32) -> usize
     at
 }
 
-// The registers below n of a list.
+// A number of clear bits below the lowest that is set: all of them, or four.
+fn clear_bits(raw: u32) -> u32
+    ensures { λ r. ⌜ (raw % 2 ^ r ≡ 0) × (r ≤ 4) ⌝ }
+{
+    let k = raw % 16;
+    match k {
+        0 => 4,
+        2 => 1,
+        4 => 2,
+        6 => 1,
+        8 => 3,
+        10 => 1,
+        12 => 2,
+        14 => 1,
+        _ => 0,
+    }
+}
+
+// The registers below n of a list: clear bits are passed by, so that few branches are guessed wrong.
 pub fn put_registers(buf: &mut [u8], at: usize, raw: u32, n: u32) -> usize
     ensures { λ r. ⌜ Wrote (now (buf .entry)) at (registers raw n) (now (buf .exit)) r ⌝ }
 {
     let mut o = at;
     let mut i = 0;
-    while i < n {
-        o = put_listed(buf, o, raw, i);
-        i += 1;
+    let mut rest = bit_range(raw, 0, n);
+    while rest != 0 {
+        let k = i + clear_bits(rest);
+        o = put_listed(buf, o, raw, k);
+        i = k + 1;
+        rest = bit_range(raw, i, n);
     }
     o
 }

@@ -71,12 +71,17 @@ isHalfword A.MoveToStatus = false
 isHalfword A.MoveToFlags = false
 isHalfword A.Undefined = false
 
--- "Refusals in order: 1, condition bits 31-28 are 1111 and the kind prints a condition. 2, a halfword-transfer kind with bits 6-5 zero."
-unfoldable pub halfwordAnswer : Form → ArmFormat → ℕ → ℕ → Answer
-halfwordAnswer form fmt pc raw = cond (isHalfword fmt && eqb (bitRange raw 5 7) 0) (refused 2) (line (lineOf form fmt pc raw))
+-- "1, condition bits 31-28 are 1111 and the kind prints a condition"
+abbrev pub lacksCond : Form → ArmFormat → ℕ → Bool
+lacksCond form fmt raw = printsCond form fmt && eqb (bitRange raw 28 32) 15
 
+-- "2, a halfword-transfer kind with bits 6-5 zero"
+abbrev pub lacksType : ArmFormat → ℕ → Bool
+lacksType fmt raw = isHalfword fmt && eqb (bitRange raw 5 7) 0
+
+-- "Refusals in order: 1, 2"
 unfoldable pub answerOf : Form → ArmFormat → ℕ → ℕ → Answer
-answerOf form fmt pc raw = cond (printsCond form fmt && eqb (bitRange raw 28 32) 15) (refused 1) (halfwordAnswer form fmt pc raw)
+answerOf form fmt pc raw = cond (lacksCond form fmt raw) (refused 1) (cond (lacksType fmt raw) (refused 2) (line (lineOf form fmt pc raw)))
 
 unfoldable pub armLine : Form → ℕ → ℕ → Answer
 armLine form pc raw = answerOf form (armFormat form raw) pc raw

@@ -23,7 +23,7 @@ use arm7tdmi::arm::write_back_flag;
 use arm7tdmi::bit::bit;
 use arm7tdmi::disass::put_cond_at;
 use arm7tdmi::disass::put_either;
-use arm7tdmi::disass::put_if;
+use arm7tdmi::disass::put_mark;
 use arm7tdmi::disass::put_reg_at;
 use arm7tdmi::disass::put_registers;
 use text::put::part;
@@ -78,7 +78,7 @@ pub fn fmt_branch(buf: &mut [u8], at: usize, pc: u32, raw: u32) -> usize
 {
     let target = branch_target(pc, raw);
     let at = put_byte(buf, at, b'b');
-    let at = put_if(buf, at, raw, 24, b"l");
+    let at = put_mark(buf, at, raw, 24, b'l');
     let at = put_cond_at(buf, at, raw, 28, 32);
     let at = put_byte(buf, at, b'\t');
     put_0x(buf, at, 1, target)
@@ -99,7 +99,7 @@ fn fmt_move(buf: &mut [u8], at: usize, form: Form, raw: u32, op: AluOpCode) -> u
     ensures { λ r. ⌜ Wrote (now (buf .entry)) at (fmtMove form raw op) (now (buf .exit)) r ⌝ }
 {
     let at = put_opcode(buf, at, op);
-    let at = put_if(buf, at, raw, 20, b"s");
+    let at = put_mark(buf, at, raw, 20, b's');
     let at = put_cond_at(buf, at, raw, 28, 32);
     let at = put_byte(buf, at, b'\t');
     let at = put_rd(buf, at, form, raw);
@@ -122,7 +122,7 @@ fn fmt_three(buf: &mut [u8], at: usize, form: Form, raw: u32, op: AluOpCode) -> 
     ensures { λ r. ⌜ Wrote (now (buf .entry)) at (fmtThree form raw op) (now (buf .exit)) r ⌝ }
 {
     let at = put_opcode(buf, at, op);
-    let at = put_if(buf, at, raw, 20, b"s");
+    let at = put_mark(buf, at, raw, 20, b's');
     let at = put_cond_at(buf, at, raw, 28, 32);
     let at = put_byte(buf, at, b'\t');
     let at = put_rd(buf, at, form, raw);
@@ -193,7 +193,7 @@ pub fn fmt_ldr_str(buf: &mut [u8], at: usize, form: Form, pc: u32, raw: u32) -> 
 {
     let offset = ldr_str_offset(raw);
     let at = put_either(buf, at, raw, 20, b"ldr", b"str");
-    let at = put_if(buf, at, raw, 22, b"b");
+    let at = put_mark(buf, at, raw, 22, b'b');
     let at = put_user_mark(buf, at, raw);
     let at = put_cond_at(buf, at, raw, 28, 32);
     let at = put_byte(buf, at, b'\t');
@@ -211,11 +211,11 @@ pub fn fmt_ldm_stm(buf: &mut [u8], at: usize, raw: u32) -> usize
     let at = put_cond_at(buf, at, raw, 28, 32);
     let at = put_byte(buf, at, b'\t');
     let at = put_reg_at(buf, at, raw, 16, 20);
-    let at = put_if(buf, at, raw, 21, b"!");
+    let at = put_mark(buf, at, raw, 21, b'!');
     let at = put_text(buf, at, b", {");
     let at = put_registers(buf, at, raw, 16);
     let at = put_byte(buf, at, b'}');
-    put_if(buf, at, raw, 22, b"^")
+    put_mark(buf, at, raw, 22, b'^')
 }
 
 pub fn fmt_mrs(buf: &mut [u8], at: usize, raw: u32) -> usize
@@ -299,7 +299,7 @@ pub fn fmt_mul_mla(buf: &mut [u8], at: usize, raw: u32) -> usize
     ensures { λ r. ⌜ Wrote (now (buf .entry)) at (fmtMulMla raw) (now (buf .exit)) r ⌝ }
 {
     let at = put_either(buf, at, raw, 21, b"mla", b"mul");
-    let at = put_if(buf, at, raw, 20, b"s");
+    let at = put_mark(buf, at, raw, 20, b's');
     let at = put_cond_at(buf, at, raw, 28, 32);
     let at = put_byte(buf, at, b'\t');
     let at = put_reg_at(buf, at, raw, 16, 20);
@@ -315,7 +315,7 @@ pub fn fmt_mull_mlal(buf: &mut [u8], at: usize, raw: u32) -> usize
 {
     let at = put_either(buf, at, raw, 22, b"s", b"u");
     let at = put_either(buf, at, raw, 21, b"mlal", b"mull");
-    let at = put_if(buf, at, raw, 20, b"s");
+    let at = put_mark(buf, at, raw, 20, b's');
     let at = put_cond_at(buf, at, raw, 28, 32);
     let at = put_byte(buf, at, b'\t');
     let at = put_reg_at(buf, at, raw, 12, 16);
@@ -374,7 +374,7 @@ pub fn fmt_swp(buf: &mut [u8], at: usize, raw: u32) -> usize
     ensures { λ r. ⌜ Wrote (now (buf .entry)) at (fmtSwp raw) (now (buf .exit)) r ⌝ }
 {
     let at = put_text(buf, at, b"swp");
-    let at = put_if(buf, at, raw, 22, b"b");
+    let at = put_mark(buf, at, raw, 22, b'b');
     let at = put_cond_at(buf, at, raw, 28, 32);
     let at = put_byte(buf, at, b'\t');
     let at = put_reg_at(buf, at, raw, 12, 16);

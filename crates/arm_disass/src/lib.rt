@@ -2,7 +2,7 @@
 ghost use mathlib.Core.Path.{_≡_};
 ghost use Rattle.text.specs.Wrote.{Wrote};
 ghost use Rattle.arm7tdmi.specs.Answer.{line, printed};
-ghost use Rattle.arm_disass.specs.Print.{lineOf, printsCond, bxPrintsCond, isHalfword, halfwordAnswer, answerOf, armLine};
+ghost use Rattle.arm_disass.specs.Print.{lineOf, printsCond, bxPrintsCond, isHalfword, lacksCond, lacksType, answerOf, armLine};
 use arm7tdmi::Form;
 use arm7tdmi::Printed;
 use arm7tdmi::arm::ArmFormat;
@@ -126,34 +126,39 @@ fn print_line(form: Form, fmt: ArmFormat, raw: u32, pc: u32, buf: &mut [u8]) -> 
     give_line(buf, &scratch[..n])
 }
 
-// Refusal 2, or the line.
-fn print_halfword(form: Form, fmt: ArmFormat, raw: u32, pc: u32, buf: &mut [u8]) -> Printed
-    ensures { λ r. ⌜ printed (halfwordAnswer form fmt pc raw) (now (buf .entry)) ≡ (r, now (buf .exit)) ⌝ }
+// Whether a word's condition is printed and is 1111.
+fn lacks_cond(form: Form, fmt: ArmFormat, raw: u32) -> bool
+    ensures { λ r. ⌜ r ≡ lacksCond form fmt raw ⌝ }
 {
-    if is_halfword(fmt) {
-        if bit_range(raw, 5, 7) == 0 {
-            return Printed {
-                number: 2,
-                length: 0,
-            };
-        }
-    }
-    print_line(form, fmt, raw, pc, buf)
+    prints_cond(form, fmt) && bit_range(raw, 28, 32) == 15
 }
 
-// Refusal 1, or what comes behind it.
+// Whether a word is a halfword transfer of type 00.
+fn lacks_type(fmt: ArmFormat, raw: u32) -> bool
+    ensures { λ r. ⌜ r ≡ lacksType fmt raw ⌝ }
+{
+    is_halfword(fmt) && bit_range(raw, 5, 7) == 0
+}
+
+// Refusal 1, refusal 2, or the line.
 fn print_format(form: Form, fmt: ArmFormat, raw: u32, pc: u32, buf: &mut [u8]) -> Printed
     ensures { λ r. ⌜ printed (answerOf form fmt pc raw) (now (buf .entry)) ≡ (r, now (buf .exit)) ⌝ }
 {
-    if prints_cond(form, fmt) {
-        if bit_range(raw, 28, 32) == 15 {
-            return Printed {
-                number: 1,
-                length: 0,
-            };
-        }
+    let no_cond = lacks_cond(form, fmt, raw);
+    let no_type = lacks_type(fmt, raw);
+    if no_cond {
+        return Printed {
+            number: 1,
+            length: 0,
+        };
     }
-    print_halfword(form, fmt, raw, pc, buf)
+    if no_type {
+        return Printed {
+            number: 2,
+            length: 0,
+        };
+    }
+    print_line(form, fmt, raw, pc, buf)
 }
 
 // Prints the line of a word at an address into a buffer.

@@ -12,7 +12,7 @@ use arm7tdmi::alu::Sign;
 use arm7tdmi::arm::pc_relative;
 use arm7tdmi::bit::bit;
 use arm7tdmi::bit::bit_range;
-use arm7tdmi::disass::put_if;
+use arm7tdmi::disass::put_mark;
 use arm7tdmi::disass::put_reg_at;
 use arm7tdmi::put_reg;
 use text::put::put_0x;
@@ -186,7 +186,7 @@ fn put_indexed(buf: &mut [u8], at: usize, form: Form, raw: u32, offset: BarrelSh
         let at = put_text(buf, at, b", ");
         let at = put_offset(buf, at, form, raw, offset);
         let at = put_byte(buf, at, b']');
-        return put_if(buf, at, raw, 21, b"!");
+        return put_mark(buf, at, raw, 21, b'!');
     }
     let at = put_text(buf, at, b"], ");
     put_offset(buf, at, form, raw, offset)

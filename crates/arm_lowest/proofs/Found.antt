@@ -11,7 +11,7 @@ use Rattle.arm7tdmi.specs.Answer.{line, refused}
 use Rattle.arm7tdmi.specs.Kinds.{armFormat}
 use Rattle.arm7tdmi.specs.declared.Form.{Form}
 use Rattle.arm7tdmi.specs.declared.arm.ArmFormat.{ArmFormat}
-use Rattle.arm_disass.specs.Print.{answerOf, armLine, halfwordAnswer, isHalfword, lineOf, printsCond}
+use Rattle.arm_disass.specs.Print.{answerOf, armLine, isHalfword, lineOf, printsCond}
 use Rattle.arm_lowest.proofs.Heads.{Mnemonic}
 use Rattle.arm_lowest.specs.CandidateParts.{Candidate}
 use Rattle.arm_lowest.specs.Heads.{head, headOf}
@@ -59,7 +59,7 @@ pub record HasLine (form : Form) (k : ArmFormat) (pc w : ℕ) (t : List ℕ) : T
 
 module _ (form : Form) (k : ArmFormat) (pc w : ℕ) (e : armFormat form w ≡ k) where
   pub printed-line : (t : List ℕ) → armLine form pc w ≡ line t → HasLine form k pc w t
-  unfolding armLine answerOf halfwordAnswer
+  unfolding armLine answerOf
   printed-line t q =
       by-test (printsCond form k && eqb (bitRange w 28 32) 15)
       (λ a. let x : refused 1 ≡ line t = sym (rw (e, a)) ∙ q in absurd (no-line x))
@@ -68,7 +68,7 @@ module _ (form : Form) (k : ArmFormat) (pc w : ℕ) (e : armFormat form w ≡ k)
       (λ b. record { text = line-same (sym q ∙ rw (e, a, b)); when = λ p z. true≢false (sym (rw (p, eq-eqb _ _ z)) ∙ a); type = rw b }))
 
   pub line-printed : (printsCond form k ≡ true → bitRange w 28 32 ≡ 15 → ⊥) → typed k w ≡ true → armLine form pc w ≡ line (lineOf form k pc w)
-  unfolding armLine answerOf halfwordAnswer
+  unfolding armLine answerOf
   line-printed c y =
       let h : (isHalfword k && eqb (bitRange w 5 7) 0) ≡ false = by-test (isHalfword k && eqb (bitRange w 5 7) 0) (λ b. absurd (true≢false (sym (rw b at y)))) (λ b. b) in
       by-test (printsCond form k)

@@ -13,7 +13,7 @@ use Rattle.arm7tdmi.specs.Kinds.{armFormat}
 use Rattle.arm7tdmi.specs.declared.Form.{Form}
 use Rattle.arm7tdmi.specs.declared.Printed.{Printed}
 use Rattle.arm_disass.proofs.Lengths.{line-within}
-use Rattle.arm_disass.specs.Print.{answerOf, armLine, halfwordAnswer, isHalfword, printsCond}
+use Rattle.arm_disass.specs.Print.{answerOf, armLine, isHalfword, printsCond}
 use Rattle.arm_lowest.proofs.Read.{candidate-lt, read-arm}
 use Rattle.arm_lowest.specs.Candidate.{candidate}
 use Rattle.arm_read.specs.Answer.{readAnswer}
@@ -31,7 +31,7 @@ Sound (refused n) = n ≡ 0 → ⊥
 Sound (line t) = Within 5 80 t
 
 pub arm-sound : (form : Form) (pc w : ℕ) → Sound (armLine form pc w)
-unfolding armLine answerOf halfwordAnswer
+unfolding armLine answerOf
 arm-sound form pc w =
     let f = armFormat form w in
     by-test (printsCond form f && eqb (bitRange w 28 32) 15)

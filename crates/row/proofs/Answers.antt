@@ -13,7 +13,7 @@ use native.Mathlib.Omega.{arith}
 use Rattle.arm7tdmi.specs.Answer.{Answer, refused, line, given, printed}
 use Rattle.arm7tdmi.specs.Kinds.{armFormat, thumbFormat}
 use Rattle.arm7tdmi.specs.declared.Form.{Form}
-use Rattle.arm_disass.specs.Print.{answerOf, armLine, halfwordAnswer, isHalfword, printsCond}
+use Rattle.arm_disass.specs.Print.{answerOf, armLine, isHalfword, printsCond}
 use Rattle.common.proofs.Tests.{and-left, and-right, at, by-test}
 use Rattle.common.specs.Bits.{bitRange}
 use Rattle.row.specs.Row.{addressDigits, answerText, isHex, isRow, shownText, wordDigits}
@@ -30,7 +30,7 @@ Whole (refused n) = 0 < n
 Whole (line bs) = length bs ≤ 80
 
 pub arm-whole : (form : Form) (pc raw : ℕ) → Whole (armLine form pc raw)
-unfolding armLine answerOf halfwordAnswer
+unfolding armLine answerOf
 arm-whole form pc raw =
     let fmt = armFormat form raw in
     let w = line-within form fmt pc raw in

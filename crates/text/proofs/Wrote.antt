@@ -9,7 +9,7 @@ use native.Mathlib.Omega.{arith}
 use borrow.Author.Tests.{lt-ltb, le-ltb}
 use lib.Dec.{ltb}
 use lib.ListN.{length, set, take, drop, getD, length-set}
-use lib.Seq.{take-suc, sets, sets-eq}
+use lib.Seq.{set-getD, sets, sets-eq, take-suc}
 use Rattle.common.proofs.Tests.{by-test}
 use Rattle.text.specs.Wrote.{Place, store, stores, Wrote}
 
@@ -37,6 +37,15 @@ one {l} {at} h = record { after = rw (lt-ltb at (length l)) }
 
 pub full : {l : List ℕ} {at b : ℕ} → length l ≤ at → Wrote l at (b ∷ []) l at
 full {l} {at} h = record { after = rw (le-ltb at (length l)) }
+
+-- a byte written or not, where its place is stored to in any case
+pub one-if : (b : Bool) (x : ℕ) {l : List ℕ} {at : ℕ} → at < length l → Wrote l at (cond b (x ∷ []) []) (set l at (cond b x (getD l at 0))) (at + cond b 1 0)
+one-if true x h = one h
+one-if false x {l} {at} h = rw (set-getD l at 0, add-zero) nothing
+
+pub full-if : (b : Bool) (x : ℕ) {l : List ℕ} {at : ℕ} → length l ≤ at → Wrote l at (cond b (x ∷ []) []) l at
+full-if true x h = full h
+full-if false x h = nothing
 
 length-store : (p : Place) (b : ℕ) → length (store p b .held) ≡ length (p .held)
 length-store p b = by-test (ltb (p .next) (length (p .held))) (λ e. rw e (length-set (p .held) (p .next) b)) (λ e. rw e)

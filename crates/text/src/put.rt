@@ -18,6 +18,38 @@ pub fn put_byte(buf: &mut [u8], at: usize, b: u8) -> usize
     at
 }
 
+// One byte or another.
+fn either(b: bool, x: u8, y: u8) -> u8
+    ensures { λ r. ⌜ r ≡ cond «b» x y ⌝ }
+{
+    if b {
+        return x;
+    }
+    y
+}
+
+// How many bytes are put.
+fn count(b: bool) -> usize
+    ensures { λ r. ⌜ (r ≡ cond «b» 1 0) × (r ≤ 1) ⌝ }
+{
+    if b {
+        return 1;
+    }
+    0
+}
+
+// A byte, if it is wanted. Its place is stored to in any case, so that no branch is to be guessed.
+pub fn put_if(buf: &mut [u8], at: usize, wanted: bool, b: u8) -> usize
+    ensures { λ r. ⌜ Wrote (now (buf .entry)) at (cond «wanted» (b ∷ []) []) (now (buf .exit)) r ⌝ }
+{
+    if at < buf.len() {
+        let held = buf[at];
+        buf[at] = either(wanted, b, held);
+        return at + count(wanted);
+    }
+    at
+}
+
 // The bytes of a text.
 pub fn put_text(buf: &mut [u8], at: usize, s: &[u8]) -> usize
     ensures { λ r. ⌜ Wrote (now (buf .entry)) at (now (s .entry)) (now (buf .exit)) r ⌝ }

@@ -12,7 +12,7 @@ use arm7tdmi::bit::bit;
 use arm7tdmi::bit::bit_range;
 use arm7tdmi::disass::put_cond_at;
 use arm7tdmi::disass::put_either;
-use arm7tdmi::disass::put_if;
+use arm7tdmi::disass::put_mark;
 use arm7tdmi::disass::put_reg_at;
 use arm7tdmi::disass::put_registers;
 use arm7tdmi::put_reg;
@@ -149,7 +149,7 @@ pub fn fmt_thumb_ldr_str_reg_offset(buf: &mut [u8], at: usize, raw: u32) -> usiz
     ensures { λ r. ⌜ Wrote (now (buf .entry)) at (fmtThumbLdrStrRegOffset raw) (now (buf .exit)) r ⌝ }
 {
     let at = put_either(buf, at, raw, 11, b"ldr", b"str");
-    let at = put_if(buf, at, raw, 10, b"b");
+    let at = put_mark(buf, at, raw, 10, b'b');
     let at = put_byte(buf, at, b'\t');
     let at = put_reg_at(buf, at, raw, 0, 3);
     let at = put_text(buf, at, b", [");
@@ -187,7 +187,7 @@ pub fn fmt_thumb_ldr_str_imm_offset(buf: &mut [u8], at: usize, raw: u32) -> usiz
 {
     let imm = imm_offset(raw);
     let at = put_either(buf, at, raw, 11, b"ldr", b"str");
-    let at = put_if(buf, at, raw, 12, b"b");
+    let at = put_mark(buf, at, raw, 12, b'b');
     let at = put_byte(buf, at, b'\t');
     let at = put_reg_at(buf, at, raw, 0, 3);
     let at = put_text(buf, at, b", [");
@@ -280,7 +280,7 @@ fn put_sheet_sp_offset(buf: &mut [u8], at: usize, raw: u32) -> usize
     ensures { λ r. ⌜ Wrote (now (buf .entry)) at (sheetSpOffset raw) (now (buf .exit)) r ⌝ }
 {
     let size = sp_size(raw);
-    let at = put_if(buf, at, raw, 7, b"-");
+    let at = put_mark(buf, at, raw, 7, b'-');
     put_0x(buf, at, 1, size)
 }
 

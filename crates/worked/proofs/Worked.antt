@@ -45,7 +45,7 @@ rows-law [] = refl
 rows-law (r ∷ l) = rw (law Bench (r .input), law Sheet (r .input), rows-law l)
 
 computed : map (givenRow byLaw) table ≡ table
-unfolding aluOpCode barrelShiftOpCode Arm.armCond Arm.halfwordType Arm.branchOffset Arm.branchTarget Arm.bsOp Arm.shiftRegBy Arm.operand2 Arm.addedOf Arm.signedOffset Arm.ldrStrOffset armRows thumbRows regNames regString condNames condText regAt condAt either ifSet setBits registers listed extended Thumb.opFormat5 Thumb.sword7 ALine.opText ALine.byAmount ALine.shiftBy ALine.shiftedRegister ALine.bxCond ALine.fmtBx ALine.fmtBranch ALine.fmtOperand2 ALine.rdText ALine.fmtThree ALine.fmtOpcode ALine.fmtDataProcessing ALine.benchOffset ALine.magnitude ALine.sheetOffset ALine.immediateOffset ALine.signText ALine.signedRegister ALine.offsetText ALine.indexed ALine.commented ALine.valueComment ALine.comment ALine.fmtRnOffset ALine.userMark ALine.fmtLdrStr APrint.lineOf APrint.halfwordAnswer APrint.answerOf APrint.armLine first digits hex prefixed dec TLine.op5Text TLine.highDst TLine.dstReg TLine.srcReg TLine.dstAndSrc TLine.highOperands TLine.fmtThumbHighRegOpOrBx TLine.spSize TLine.spBits TLine.sheetSpOffset TLine.spOffset TLine.fmtThumbAddSp TLine.baseText TLine.fmtThumbLdmStm TPrint.lineOf TPrint.thumbLine candidate dpCand dpFrom undefinedCand condOf headOf stemNames stemOf stems same regNamed condNamed digitValue valueFrom Words.isWord Words.word Words.behind Words.after Words.has ALine.fmtTest ALine.immediate ALine.decodedText immediateOf operandOf rotationOf shiftNamed shiftNames shiftedOf
+unfolding aluOpCode barrelShiftOpCode Arm.armCond Arm.halfwordType Arm.branchOffset Arm.branchTarget Arm.bsOp Arm.shiftRegBy Arm.operand2 Arm.addedOf Arm.signedOffset Arm.ldrStrOffset armRows thumbRows regNames regString condNames condText regAt condAt either ifSet setBits registers listed extended Thumb.opFormat5 Thumb.sword7 ALine.opText ALine.byAmount ALine.shiftBy ALine.shiftedRegister ALine.bxCond ALine.fmtBx ALine.fmtBranch ALine.fmtOperand2 ALine.rdText ALine.fmtThree ALine.fmtOpcode ALine.fmtDataProcessing ALine.benchOffset ALine.magnitude ALine.sheetOffset ALine.immediateOffset ALine.signText ALine.signedRegister ALine.offsetText ALine.indexed ALine.commented ALine.valueComment ALine.comment ALine.fmtRnOffset ALine.userMark ALine.fmtLdrStr APrint.lineOf APrint.answerOf APrint.armLine first digits hex prefixed dec TLine.op5Text TLine.highDst TLine.dstReg TLine.srcReg TLine.dstAndSrc TLine.highOperands TLine.fmtThumbHighRegOpOrBx TLine.spSize TLine.spBits TLine.sheetSpOffset TLine.spOffset TLine.fmtThumbAddSp TLine.baseText TLine.fmtThumbLdmStm TPrint.lineOf TPrint.thumbLine candidate dpCand dpFrom undefinedCand condOf headOf stemNames stemOf stems same regNamed condNamed digitValue valueFrom Words.isWord Words.word Words.behind Words.after Words.has ALine.fmtTest ALine.immediate ALine.decodedText immediateOf operandOf rotationOf shiftNamed shiftNames shiftedOf
 computed = refl
 
 pub worked : map (givenRow gives) table ≡ table

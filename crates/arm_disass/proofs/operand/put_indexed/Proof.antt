@@ -9,10 +9,10 @@ returns : tie.Need-returns
 unfolding indexed
 returns c =
     let c3 = c .before .before in
-    let c2 = c3 .before .before .before .before .before in
+    let c2 = c3 .before .before .before .before in
     let c1 = c2 .before .before .before .before in
     let c0 = c1 .before .before .before .before in
-    same-as (c0 .put-text .ensures ⨾ c1 .put-offset .ensures ⨾ c2 .put-byte .ensures ⨾ c3 .put-if .ensures) (rw (← c .before .before .before .before .before .before .before .before .before .before .before .before .before .before .before .before .before .before .before .bit .ensures, c .before .before .before .before .before .before .before .before .before .before .before .before .before .before .before .before .before .before .if1 .taken))
+    same-as (c0 .put-text .ensures ⨾ c1 .put-offset .ensures ⨾ c2 .put-byte .ensures ⨾ c3 .put-mark .ensures) (rw (← c .before .before .before .before .before .before .before .before .before .before .before .before .before .before .before .before .before .before .bit .ensures, c .before .before .before .before .before .before .before .before .before .before .before .before .before .before .before .before .before .if1 .taken))
 
 returns-2 : tie.Need-returns-2
 unfolding indexed
@@ -22,4 +22,4 @@ returns-2 c =
     same-as (c0 .put-text2 .ensures ⨾ c1 .put-offset2 .ensures) (rw (← c .before .before .before .before .before .before .before .before .before .before .bit .ensures, c .before .before .before .before .before .before .before .before .before .if1 .left))
 
 pub put-indexed-spec : {M : Type 1} → statement M
-put-indexed-spec = tie.close (tie.spec (λ c κs. search needs) (λ c. search needs) (λ c κs. search needs) (λ c κs. search needs) (λ c κs. search needs) (λ c. search needs) (λ c κs. search needs) (λ c. kept (returns c)) returns (λ c. search needs) (λ c κs. search needs) (λ c κs. search needs) (λ c. kept (returns-2 c)) returns-2)
+put-indexed-spec = tie.close (tie.spec (λ c κs. search needs) (λ c. search needs) (λ c κs. search needs) (λ c κs. search needs) (λ c κs. search needs) (λ c κs. search needs) (λ c. kept (returns c)) returns (λ c. search needs) (λ c κs. search needs) (λ c κs. search needs) (λ c. kept (returns-2 c)) returns-2)

@@ -16,8 +16,8 @@ returns c =
     let c3 = c4 .before .before .before .before .before in
     let c2 = c3 .before .before .before .before in
     let c1 = c2 .before .before .before .before in
-    let c0 = c1 .before .before .before .before .before in
-    c0 .put-either .ensures ⨾ c1 .put-if .ensures ⨾ c2 .put-byte .ensures ⨾ c3 .put-reg-at .ensures ⨾ c4 .put-text .ensures ⨾ c5 .put-reg-at2 .ensures ⨾ c6 .put-text2 .ensures ⨾ c7 .put-reg-at3 .ensures ⨾ c8 .put-byte2 .ensures
+    let c0 = c1 .before .before .before .before in
+    c0 .put-either .ensures ⨾ c1 .put-mark .ensures ⨾ c2 .put-byte .ensures ⨾ c3 .put-reg-at .ensures ⨾ c4 .put-text .ensures ⨾ c5 .put-reg-at2 .ensures ⨾ c6 .put-text2 .ensures ⨾ c7 .put-reg-at3 .ensures ⨾ c8 .put-byte2 .ensures
 
 pub fmt-thumb-ldr-str-reg-offset-spec : {M : Type 1} → statement M
-fmt-thumb-ldr-str-reg-offset-spec = tie.close (tie.spec (λ c. search needs) (λ c. search needs) (λ c κs. search needs) (λ c. search needs) (λ c κs. search needs) (λ c κs. search needs) (λ c κs. search needs) (λ c. search needs) (λ c κs. search needs) (λ c κs. search needs) (λ c. search needs) (λ c κs. search needs) (λ c κs. search needs) (λ c κs. search needs) (λ c. kept (returns c)) returns)
+fmt-thumb-ldr-str-reg-offset-spec = tie.close (tie.spec (λ c. search needs) (λ c. search needs) (λ c κs. search needs) (λ c κs. search needs) (λ c κs. search needs) (λ c κs. search needs) (λ c. search needs) (λ c κs. search needs) (λ c κs. search needs) (λ c. search needs) (λ c κs. search needs) (λ c κs. search needs) (λ c κs. search needs) (λ c. kept (returns c)) returns)

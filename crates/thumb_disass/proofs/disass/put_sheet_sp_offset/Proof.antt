@@ -10,7 +10,7 @@ unfolding sheetSpOffset
 returns c =
     let c1 = c .before .before in
     let c0 = c1 .before .before .before .before in
-    rw (← c .before .before .before .before .before .before .before .before .before .sp-size .ensures) (c0 .put-if .ensures ⨾ c1 .put-0x .ensures)
+    rw (← c .before .before .before .before .before .before .before .before .sp-size .ensures) (c0 .put-mark .ensures ⨾ c1 .put-0x .ensures)
 
 pub put-sheet-sp-offset-spec : {M : Type 1} → statement M
-put-sheet-sp-offset-spec = tie.close (tie.spec (λ c κs. search needs) (λ c. search needs) (λ c κs. search needs) (λ c κs. search needs) (λ c. kept (returns c)) returns)
+put-sheet-sp-offset-spec = tie.close (tie.spec (λ c κs. search needs) (λ c κs. search needs) (λ c κs. search needs) (λ c. kept (returns c)) returns)

@@ -1,0 +1,13 @@
+-- `arm7tdmi::disass::put_mark` meets its contract. Assumes nothing.
+use borrow.Author.Needs.{needs}
+use Rattle.arm7tdmi.specs.Pieces.{ifSet}
+use Rattle.text.proofs.Wrote.{kept}
+use Rattle.arm7tdmi.proofs.disass.put_mark.Statement.{statement}
+use Rattle.arm7tdmi.proofs.disass.put_mark.Tie as tie
+
+returns : tie.Need-returns
+unfolding ifSet
+returns c = rw (← c .before .before .before .bit .ensures) (c .before .before .put-if .ensures)
+
+pub put-mark-spec : {M : Type 1} → statement M
+put-mark-spec = tie.close (tie.spec (λ c κs. search needs) (λ c κs. search needs) (λ c. kept (returns c)) returns)
