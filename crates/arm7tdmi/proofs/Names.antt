@@ -1,14 +1,14 @@
 -- Names of registers and conditions: what the code writes, that it is read back, and how long it is. Assumes nothing.
-use Prim.Native.Nat.{_*_, _+_, _<_, _≤_, ℕ}
+use Prim.Native.Nat.{_%_, _*_, _+_, _-_, _/_, _<_, _^_, _≤_, ℕ}
 use borrow.Author.Tests.{eqb-false, eqb-true, ne-eqb}
 use lib.Dec.{eqb, ltb}
 use lib.ListN.{List·getD-eq-default, getD}
-use mathlib.Core.Bool.{cond, false, true}
+use mathlib.Core.Bool.{Bool, _&&_, cond, false, not, true}
 use mathlib.Core.List.{List, [], _++_, _∷_, map}
-use mathlib.Core.Path.{_≡_, refl, sym}
+use mathlib.Core.Path.{_∙_, _≡_, ap, refl, sym}
 use native.Mathlib.Omega.{arith}
 use Rattle.arm7tdmi.specs.Names.{condNamed, condNames, condText, regNamed, regNames, regString}
-use Rattle.common.proofs.Lists.{agreed}
+use Rattle.common.proofs.Lists.{NoneOf, agreed, none-found, picked}
 use Rattle.common.proofs.Tests.{at, at-not, by-test}
 use Rattle.common.specs.Lists.{find, first, same}
 use Rattle.text.proofs.Packed.{Bytes, find-packed}
@@ -64,6 +64,31 @@ reg-found l h = find-packed regNames l refl h
 pub cond-found : (l : List ℕ) → Bytes l → find (packed l) (map packed condNames) ≡ condNamed l
 unfolding condNamed condNames
 cond-found l h = find-packed condNames l refl h
+
+-- ---- packed names as the code finds them: `r` and what stands behind it, or another first byte
+abbrev codes : List ℕ
+codes = map packed regNames
+
+numbered-parts : (m : ℕ) → ((m * 2 ^ 8 + 0x72) % 2 ^ 8 ≡ 0x72) × ((m * 2 ^ 8 + 0x72) / 2 ^ 8 ≡ m)
+numbered-parts m = (omega arith, omega arith)
+
+pub digit-reg : (m : ℕ) → 0x30 ≤ m → m ≤ 0x39 → m - 0x30 ≡ find (m * 2 ^ 8 + 0x72) codes
+unfolding regNames packed first
+digit-reg m h g =
+    let e : m ≡ m - 0x30 + 0x30 = omega arith in
+    let f : m - 0x30 ≡ find ((m - 0x30 + 0x30) * 2 ^ 8 + 0x72) codes = eqb-true _ _ (at (λ d. eqb d (find ((d + 0x30) * 2 ^ 8 + 0x72) codes)) 10 refl (m - 0x30) (omega arith)) in
+    f ∙ ap (λ (x : ℕ). find (x * 2 ^ 8 + 0x72) codes) (sym e)
+
+-- m passes a test, and is none of those that stand in the names and do
+pub no-number : (p : ℕ → Bool) (m : ℕ) → p m ≡ true → NoneOf (m * 2 ^ 8 + 0x72) (picked (λ x. eqb (x % 2 ^ 8) 0x72 && p (x / 2 ^ 8)) [] codes) → 16 ≡ find (m * 2 ^ 8 + 0x72) codes
+unfolding regNames
+no-number p m t h =
+    let d = numbered-parts m in
+    sym (none-found (λ x. eqb (x % 2 ^ 8) 0x72 && p (x / 2 ^ 8)) (m * 2 ^ 8 + 0x72) codes [] (rw (d .0, d .1) t) h)
+
+pub no-name : (n : ℕ) → (n % 2 ^ 8 ≡ 0x72 → ⊥) → NoneOf n (picked (λ x. not (eqb (x % 2 ^ 8) 0x72)) [] codes) → 16 ≡ find n codes
+unfolding regNames
+no-name n f h = sym (none-found (λ x. not (eqb (x % 2 ^ 8) 0x72)) n codes [] (rw (ne-eqb (n % 2 ^ 8) 0x72 f)) h)
 
 -- ---- names are words, and begin with no digit
 pub reg-wordy : (n : ℕ) → n < 16 → wordy (regString n) ≡ true

@@ -1,11 +1,13 @@
 // Words of the ARM7TDMI: their kinds and their fields. The files are named as in the Rust original.
+ghost use mathlib.Core.List.{map};
 ghost use mathlib.Core.Path.{_≡_};
-ghost use Prim.Native.Nat.{_≤_};
+ghost use Prim.Native.Nat.{_+_, _*_, _^_, _≤_};
+ghost use Rattle.common.specs.Lists.{find};
+ghost use Rattle.text.specs.Word.{packed};
 ghost use Rattle.text.specs.Wrote.{Wrote};
-ghost use Rattle.arm7tdmi.specs.Names.{regString, regNamed};
+ghost use Rattle.arm7tdmi.specs.Names.{regNames, regString, regNamed};
 use text::put::put_byte;
 use text::read::pack;
-use text::read::position;
 
 pub mod alu;
 pub mod arm;
@@ -45,29 +47,42 @@ pub fn put_reg(buf: &mut [u8], at: usize, reg: u32) -> usize
     at
 }
 
-// The registers' names, packed.
-const REG_NAMES: [u64; 16] = [
-    0x3072,
-    0x3172,
-    0x3272,
-    0x3372,
-    0x3472,
-    0x3572,
-    0x3672,
-    0x3772,
-    0x3872,
-    0x3972,
-    0x303172,
-    0x7066,
-    0x7069,
-    0x7073,
-    0x726c,
-    0x6370,
-];
+// The register whose packed name is `r` and then m, or 16.
+fn numbered_reg(m: u64) -> u32
+    ensures { λ r. ⌜ (r ≡ find (m * 2 ^ 8 + 0x72) (map packed regNames)) × (r ≤ 16) ⌝ }
+{
+    if m < 0x30 {
+        return 16;
+    }
+    if m <= 0x39 {
+        return (m - 0x30) as u32;
+    }
+    if m == 0x3031 {
+        return 10;
+    }
+    16
+}
+
+// The register of a packed name, or 16.
+fn named_reg(n: u64) -> u32
+    ensures { λ r. ⌜ (r ≡ find n (map packed regNames)) × (r ≤ 16) ⌝ }
+{
+    if n % 256 == 0x72 {
+        return numbered_reg(n / 256);
+    }
+    match n {
+        0x7066 => 11, // fp
+        0x7069 => 12, // ip
+        0x7073 => 13, // sp
+        0x726c => 14, // lr
+        0x6370 => 15, // pc
+        _ => 16,
+    }
+}
 
 // The register that a word names, or 16.
 pub fn read_reg(s: &[u8]) -> u32
     ensures { λ r. ⌜ (r ≡ regNamed (now (s .entry))) × (r ≤ 16) ⌝ }
 {
-    position(&REG_NAMES, pack(s)) as u32
+    named_reg(pack(s))
 }

@@ -1,11 +1,9 @@
 -- The mnemonics, as the code's matches have them. Assumes nothing.
-use Prim.Native.Nat.{_%_, _*_, _/_, _<_, _^_, _≤_, suc, ℕ}
+use Prim.Native.Nat.{_%_, _*_, _/_, _<_, _^_, _≤_, ℕ}
 use borrow.Author.Tests.{eqb-false, eqb-true, leb-true, ltb-false, ltb-true}
 use lib.Dec.{eqb, leb, ltb}
-use lib.ListN.{length}
-use mathlib.Core.Bool.{Bool, cond, true}
-use mathlib.Core.List.{List, [], _∷_, map}
-use mathlib.Core.Path.{_≡_, ap, refl, sym}
+use mathlib.Core.List.{List, map}
+use mathlib.Core.Path.{_≡_, refl}
 use native.Mathlib.Nat.{lt-irrefl, lt-of-le-of-lt}
 use native.Mathlib.Omega.{arith}
 use Rattle.arm_lowest.proofs.Heads.{stem-found}
@@ -16,35 +14,6 @@ use Rattle.common.proofs.Tests.{at, by-test}
 use Rattle.common.specs.Lists.{find, first, place, same}
 use Rattle.text.proofs.Packed.{Bytes}
 use Rattle.text.specs.Word.{packed}
-
--- ---- a match: a number that passes p, and is none of those in a list that do, is not in the list
--- the numbers that pass, the last first, as the last arm of a match has them
-abbrev pub picked : (ℕ → Bool) → List ℕ → List ℕ → List ℕ
-picked p acc [] = acc
-picked p acc (x ∷ xs) = picked p (cond (p x) (x ∷ acc) acc) xs
-
-abbrev pub NoneOf : ℕ → List ℕ → Type 0
-NoneOf n [] = Unit {0}
-NoneOf n (k ∷ ks) = NoneOf n ks × (n ≡ k → ⊥)
-
-module _ (p : ℕ → Bool) (n : ℕ) where
-  keeps : (xs acc : List ℕ) → NoneOf n (picked p acc xs) → NoneOf n acc
-  keeps [] acc h = h
-  keeps (x ∷ xs) acc h =
-      let more = keeps xs (x ∷ acc) in
-      let same = keeps xs acc in
-      by-test (p x) (λ e. more (rw e at h) .0) (λ e. same (rw e at h))
-
-  pub none-found : (xs acc : List ℕ) → p n ≡ true → NoneOf n (picked p acc xs) → find n xs ≡ length xs
-  unfolding first
-  none-found [] acc t h = refl
-  none-found (x ∷ xs) acc t h =
-      let ih = none-found xs (cond (p x) (x ∷ acc) acc) t h in
-      by-test (eqb x n)
-      (λ e. let q : x ≡ n = eqb-true x n e in
-      let px : p x ≡ true = rw q t in
-      absurd (keeps xs (x ∷ acc) (rw px at h) .1 (sym q)))
-      (λ e. rw e (ap suc ih))
 
 -- ---- the stems
 abbrev pub codes : List ℕ

@@ -1,6 +1,6 @@
 -- Laws of equality as a test, and of places in a list. Assumes nothing.
-use mathlib.Core.Path.{_≡_, refl, sym, ap, ap₂}
-use mathlib.Core.Bool.{Bool, true, false, cond, _&&_, true≢false}
+use mathlib.Core.Path.{_∙_, _≡_, ap, ap₂, refl, sym}
+use mathlib.Core.Bool.{Bool, _&&_, cond, false, not, true, true≢false}
 use mathlib.Core.List.{List, [], _∷_, _++_}
 use Prim.Native.Nat.{ℕ, zero, suc, _+_, _-_, _≤_, _<_}
 use native.Mathlib.Omega.{arith}
@@ -9,7 +9,7 @@ use lib.Dec.{eqb, ltb}
 use borrow.Author.Tests.{eqb-true, eq-eqb, ne-eqb}
 use lib.ListN.{length, take, drop, getD, length-drop, drop-of-length-le}
 use lib.Seq.{drop-cons, take-all}
-use Rattle.common.specs.Lists.{same, first}
+use Rattle.common.specs.Lists.{find, first, same}
 use Rattle.common.proofs.Tests.{by-test, and-left, and-right, every, at}
 
 -- ---- equality
@@ -66,6 +66,45 @@ module _ {A : Type 0} (p : A → Bool) where
   pub first-out : (xs : List A) (i : ℕ) → length xs ≤ i → first p (drop i xs) ≡ 0
   unfolding first
   first-out xs i h = rw (drop-of-length-le xs h)
+
+-- ---- a match: a number that passes p, and is none of those in a list that do, is not in the list
+abbrev among : ℕ → List ℕ → Bool
+among n [] = false
+among n (k ∷ ks) = cond (eqb k n) true (among n ks)
+
+-- the numbers that pass, each once, the last first, as the last arm of a match has them
+abbrev pub picked : (ℕ → Bool) → List ℕ → List ℕ → List ℕ
+picked p acc [] = acc
+picked p acc (x ∷ xs) = picked p (cond (p x && not (among x acc)) (x ∷ acc) acc) xs
+
+abbrev pub NoneOf : ℕ → List ℕ → Type 0
+NoneOf n [] = Unit {0}
+NoneOf n (k ∷ ks) = NoneOf n ks × (n ≡ k → ⊥)
+
+not-among : (n : ℕ) (ks : List ℕ) → NoneOf n ks → among n ks ≡ false
+not-among n [] h = refl
+not-among n (k ∷ ks) h = by-test (eqb k n) (λ e. absurd (h .1 (sym (eqb-true k n e)))) (λ e. rw e (not-among n ks (h .0)))
+
+module _ (p : ℕ → Bool) (n : ℕ) where
+  keeps : (xs acc : List ℕ) → NoneOf n (picked p acc xs) → NoneOf n acc
+  keeps [] acc h = h
+  keeps (x ∷ xs) acc h =
+      let more = keeps xs (x ∷ acc) in
+      let same = keeps xs acc in
+      by-test (p x && not (among x acc)) (λ e. more (rw e at h) .0) (λ e. same (rw e at h))
+
+  pub none-found : (xs acc : List ℕ) → p n ≡ true → NoneOf n (picked p acc xs) → find n xs ≡ length xs
+  unfolding first
+  none-found [] acc t h = refl
+  none-found (x ∷ xs) acc t h =
+      let ih = none-found xs (cond (p x && not (among x acc)) (x ∷ acc) acc) t h in
+      by-test (eqb x n)
+      (λ e. let q : x ≡ n = eqb-true x n e in
+      let px : p x ≡ true = rw q t in
+      by-test (among x acc)
+      (λ a. absurd (true≢false (sym (rw q at a) ∙ not-among n acc (keeps xs acc (rw (px, a) at h)))))
+      (λ a. absurd (keeps xs (x ∷ acc) (rw (px, a) at h) .1 (sym q))))
+      (λ e. rw e (ap suc ih))
 
 -- what `&s[a..]` holds
 pub part-rest : (l : List ℕ) (a : ℕ) → take (length l - a) (drop a l) ≡ drop a l

@@ -1,7 +1,7 @@
 -- Tests that antt computes: the two cases of a test, and a test of each number below a bound. Assumes nothing.
 use mathlib.Core.Path.{_≡_, refl, sym}
 use mathlib.Core.Bool.{Bool, true, false, _&&_, not, true≢false}
-use Prim.Native.Nat.{ℕ, zero, suc, _≤_, _<_, zero-le}
+use Prim.Native.Nat.{_+_, _<_, _≤_, suc, zero, ℕ}
 use native.Mathlib.Nat.{not-suc-le-zero}
 use native.Mathlib.Omega.{arith}
 use lib.Dec.{ltb}
@@ -39,11 +39,11 @@ at-not f n e k h =
     (λ t. let z : not (f k) ≡ true = at (λ k. not (f k)) n e k h in absurd (true≢false (sym (rw t at z))))
     (λ t. t)
 
--- k is none of the numbers below n, as the last arm of a match has it
-abbrev pub Missed : ℕ → ℕ → Type 0
-Missed k zero = Unit {0}
-Missed k (suc n) = Missed k n × (k ≡ n → ⊥)
+-- k is none of the n numbers from a on, as the last arm of a match has it
+abbrev pub Missed : ℕ → ℕ → ℕ → Type 0
+Missed k a zero = Unit {0}
+Missed k a (suc n) = Missed k a n × (k ≡ a + n → ⊥)
 
-pub missed : (k n : ℕ) → Missed k n → n ≤ k
-missed k zero m = zero-le
-missed k (suc n) (m, f) = let h = missed k n m in omega arith
+pub missed : (k a n : ℕ) → a ≤ k → Missed k a n → a + n ≤ k
+missed k a zero h m = omega arith
+missed k a (suc n) h (m, f) = let g = missed k a n h m in omega arith

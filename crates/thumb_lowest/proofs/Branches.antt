@@ -7,7 +7,7 @@ use mathlib.Core.Bool.{cond, true}
 use mathlib.Core.List.{List, [], _++_, _∷_}
 use mathlib.Core.Path.{_∙_, _≡_, refl}
 use native.Mathlib.Omega.{arith}
-use Rattle.arm7tdmi.specs.Kinds.{thumbNumber, thumbRows}
+use Rattle.arm7tdmi.specs.Kinds.{thumbNumber}
 use Rattle.arm7tdmi.specs.Names.{condNames, condText}
 use Rattle.arm7tdmi.specs.Pieces.{condAt}
 use Rattle.arm7tdmi.specs.Signed.{extended, moved}
@@ -25,7 +25,7 @@ use Rattle.thumb_disass.specs.Line.{fmtThumbBranch, fmtThumbBranchLongWithLink,
 use Rattle.thumb_disass.specs.Print.{lineOf}
 use Rattle.thumb_lowest.proofs.Found.{Law, Mnemonic, Words, exact, row-is, rows-are}
 use Rattle.thumb_lowest.proofs.Parts.{prefixed-back, prefixed-wordy, regroup}
-use Rattle.thumb_lowest.specs.Candidate.{callUnit, offsetIn, operands, rows}
+use Rattle.thumb_lowest.specs.Candidate.{callUnit, offsetIn, operands, rows, suits}
 use Rattle.thumb_words.proofs.Laws.{conditions, parts, thumb-read, thumb-words}
 use Rattle.thumb_words.proofs.Parts.{Fits}
 use Rattle.arm7tdmi.specs.declared.thumb.ThumbFormat.the-variants as H
@@ -44,42 +44,42 @@ unfolding extended
 eleven-back x h = by-test (ltb x (2 ^ 10)) (λ e. let l = ltb-true x (2 ^ 10) e in rw e (omega arith)) (λ e. let l = ltb-false x (2 ^ 10) e in rw e (omega arith))
 
 module _ (form : Form) (pc : ℕ) (k : ThumbFormat) (d : T (ltb (thumbNumber k) 19)) (xs : List ℕ) (f : Fits (parts form k) xs)
-    (m : List ℕ) (b : ℕ) (row : Mnemonic form k m b) where
+    (m : List ℕ) (b : ℕ) (row : Mnemonic k m b) where
   branch-found : (x y : ℕ) → y < 2 ^ 32 → ((t : List ℕ) → offsetIn pc t ≡ y / 2 → operands k b form pc t ≡ x) → b + x ≡ made (parts form k) xs →
-      lineOf form k pc (made (parts form k) xs) ≡ m ++ text "\t" ++ prefixed 1 (moved (moved pc 4) y) → Law form pc k d (made (parts form k) xs)
+      lineOf form k pc (made (parts form k) xs) ≡ m ++ text "\t" ++ prefixed 1 (moved (moved pc 4) y) → ((t : List ℕ) → suits k t ≡ true) → Law form pc k d (made (parts form k) xs)
   unfolding offsetIn isWord
-  branch-found x y h o s shown =
+  branch-found x y h o s shown u =
       let a = moved (moved pc 4) y in
       let ps = piece m (text "\t") (last (prefixed 1 a)) in
       let g : good ps ≡ true = rw (row .one-word, prefixed-wordy 1 a (omega arith)) in
       exact form pc k d xs f ps b row g
       (rw (o (spell ps) (rw (word-nth 1 ps g, prefixed-back 1 a (omega arith), distance-back (moved pc 4) y (omega arith) h))) s)
-      (shown ∙ regroup m (text "\t" ∷ prefixed 1 a ∷ []))
+      (shown ∙ regroup m (text "\t" ∷ prefixed 1 a ∷ [])) (u (spell ps))
 
 -- ---- "b{cond}\t{addr:#x}"
-conditional-row : (form : Form) (c : ℕ) → c < conditions form → Mnemonic form H.BranchConditional (text "b" ++ condText c) (0xd000 + c * 2 ^ 8)
-unfolding rows thumbRows condText condNames first same isWord
-conditional-row Bench = rows-are Bench H.BranchConditional 15 (λ c. text "b" ++ condText c) (λ c. 0xd000 + c * 2 ^ 8) refl
-conditional-row Sheet = rows-are Sheet H.BranchConditional 14 (λ c. text "b" ++ condText c) (λ c. 0xd000 + c * 2 ^ 8) refl
+conditional-row : (form : Form) (c : ℕ) → c < conditions form → Mnemonic H.BranchConditional (text "b" ++ condText c) (0xd000 + c * 2 ^ 8)
+unfolding rows condText condNames first same isWord
+conditional-row Bench = rows-are H.BranchConditional 15 (λ c. text "b" ++ condText c) (λ c. 0xd000 + c * 2 ^ 8) refl
+conditional-row Sheet = rows-are H.BranchConditional 14 (λ c. text "b" ++ condText c) (λ c. 0xd000 + c * 2 ^ 8) refl
 
 pub branchConditional-law : (form : Form) (pc : ℕ) → Words form pc H.BranchConditional tt
-unfolding lineOf fmtThumbBranchWithCond bcondTarget condAt operands
+unfolding lineOf fmtThumbBranchWithCond bcondTarget condAt operands suits
 branchConditional-law form pc = thumb-words form H.BranchConditional tt (Law form pc H.BranchConditional tt) (λ c offset f e.
     let xs = c ∷ offset ∷ [] in
     let r = thumb-read form H.BranchConditional tt xs f in
     let back = eight-back offset (f .1 .0) in
     branch-found form pc H.BranchConditional tt xs f (text "b" ++ condText c) (0xd000 + c * 2 ^ 8) (conditional-row form c (f .0)) offset (extended 8 2 offset) (back .0)
-    (λ t e. rw e (back .1)) (omega arith) (rw (r 0, r 1)))
+    (λ t e. rw e (back .1)) (omega arith) (rw (r 0, r 1)) (λ t. refl))
 
 -- ---- "b\t{addr:#x}"
 pub branch-law : (form : Form) (pc : ℕ) → Words form pc H.Branch tt
-unfolding lineOf fmtThumbBranch branchTarget operands rows thumbRows first same isWord
+unfolding lineOf fmtThumbBranch branchTarget operands suits rows first same isWord
 branch-law form pc = thumb-words form H.Branch tt (Law form pc H.Branch tt) (λ offset f e.
     let xs = offset ∷ [] in
     let r = thumb-read form H.Branch tt xs f in
     let back = eleven-back offset (f .0) in
-    branch-found form pc H.Branch tt xs f (text "b") 0xe000 (row-is form H.Branch (text "b") 0xe000 refl) offset (extended 11 2 offset) (back .0)
-    (λ t e. rw e (back .1)) (omega arith) (rw (r 0)))
+    branch-found form pc H.Branch tt xs f (text "b") 0xe000 (row-is H.Branch (text "b") 0xe000 refl) offset (extended 11 2 offset) (back .0)
+    (λ t e. rw e (back .1)) (omega arith) (rw (r 0)) (λ t. refl))
 
 -- ---- "bl\t#0x{:08x}": a row for each half
 half-back : (h offset : ℕ) → h < 2 → offset < 2 ^ 11 →
@@ -93,14 +93,14 @@ half-back h offset l g =
     (λ e. rw e (by-test (ltb offset (2 ^ 10)) (λ d. let z = ltb-true offset (2 ^ 10) d in rw d (omega arith)) (λ d. let z = ltb-false offset (2 ^ 10) d in rw d (omega arith)))))
 
 pub branchLongWithLink-law : (form : Form) (pc : ℕ) → Words form pc H.BranchLongWithLink tt
-unfolding lineOf fmtThumbBranchLongWithLink callHalf operands rows thumbRows first same isWord
+unfolding lineOf fmtThumbBranchLongWithLink callHalf operands suits rows first same isWord
 branchLongWithLink-law form pc = thumb-words form H.BranchLongWithLink tt (Law form pc H.BranchLongWithLink tt) (λ h offset f e.
     let xs = h ∷ offset ∷ [] in
     let r = thumb-read form H.BranchLongWithLink tt xs f in
-    let row = rows-are form H.BranchLongWithLink 2 (λ h. text "bl") (λ h. 0xf000 + h * 2 ^ 11) refl h (f .0) in
+    let row = rows-are H.BranchLongWithLink 2 (λ h. text "bl") (λ h. 0xf000 + h * 2 ^ 11) refl h (f .0) in
     let a = cond (eqb h 1) (offset * 2) (moved 0 (extended 11 4096 offset)) in
     let back = half-back h offset (f .0) (f .1 .0) in
     let ps = piece (text "bl") (text "\t#") (last (prefixed 8 a)) in
     let g : good ps ≡ true = prefixed-wordy 8 a (omega arith) in
     exact form pc H.BranchLongWithLink tt xs f ps (0xf000 + h * 2 ^ 11) row g
-    (rw (word-nth 1 ps g, prefixed-back 8 a (back .0), back .1) (omega arith)) (rw (r 0, r 1)))
+    (rw (word-nth 1 ps g, prefixed-back 8 a (back .0), back .1) (omega arith)) (rw (r 0, r 1)) refl)

@@ -7,7 +7,6 @@ use mathlib.Core.List.{List, [], _++_, _∷_}
 use mathlib.Core.Path.{_∙_, _≡_, ap, refl}
 use native.Mathlib.Omega.{arith}
 use Rattle.arm7tdmi.proofs.Names.{reg-back, reg-wordy}
-use Rattle.arm7tdmi.specs.Kinds.{thumbRows}
 use Rattle.arm7tdmi.specs.Names.{regString}
 use Rattle.arm7tdmi.specs.Thumb.{opFormat5}
 use Rattle.arm7tdmi.specs.declared.Form.{Form}
@@ -21,7 +20,7 @@ use Rattle.thumb_disass.specs.Line.{dstAndSrc, dstReg, fmtThumbHighRegOpOrBx, h
 use Rattle.thumb_disass.specs.Print.{lineOf}
 use Rattle.thumb_lowest.proofs.Found.{Law, Mnemonic, Words, found, rows-are}
 use Rattle.thumb_lowest.proofs.Parts.{regroup}
-use Rattle.thumb_lowest.specs.Candidate.{highIn, operands, rows}
+use Rattle.thumb_lowest.specs.Candidate.{highIn, operands, rows, suits}
 use Rattle.thumb_words.proofs.Laws.{NoHigher, parts, thumb-lower, thumb-read, thumb-words}
 use Rattle.thumb_words.proofs.Parts.{Fits}
 use Rattle.thumb_words.proofs.Words.{bench-destination, bx-least, by-flag, hiReg-least, hiRegWord}
@@ -86,9 +85,9 @@ two-operands form raw (suc zero) h = refl
 two-operands form raw (suc (suc zero)) h = refl
 two-operands form raw (suc (suc (suc n))) h = absurd (omega arith)
 
-row : (form : Form) (op : ℕ) → op < 4 → Mnemonic form H.HiRegOpOrBranchExchange (op5Text (opFormat5 op)) (0x4400 + op * 2 ^ 8)
-unfolding rows thumbRows op5Text opFormat5 first same isWord
-row form op h = rows-are form H.HiRegOpOrBranchExchange 4 (λ op. op5Text (opFormat5 op)) (λ op. 0x4400 + op * 2 ^ 8) refl op h
+row : (op : ℕ) → op < 4 → Mnemonic H.HiRegOpOrBranchExchange (op5Text (opFormat5 op)) (0x4400 + op * 2 ^ 8)
+unfolding rows op5Text opFormat5 first same isWord
+row op h = rows-are H.HiRegOpOrBranchExchange 4 (λ op. op5Text (opFormat5 op)) (λ op. 0x4400 + op * 2 ^ 8) refl op h
 
 module _ (form : Form) (pc op : ℕ) (h : op < 3) (h2 rs rd : ℕ) where
   abbrev two : ℕ → Pieces
@@ -104,17 +103,17 @@ module _ (form : Form) (pc op : ℕ) (h : op < 3) (h2 rs rd : ℕ) where
       ∙ ap (λ (l : List ℕ). m ++ (text "\t" ++ l)) (regroup (regString (shows form h1 rs * 8 + rd)) (text ", " ∷ regString (h2 * 8 + rs) ∷ [])))
 
   two-found : (h1 : ℕ) → Fields form op h1 h2 rs rd → Law form pc H.HiRegOpOrBranchExchange tt (hiRegWord op h1 h2 rs rd)
-  unfolding operands highIn isWord
+  unfolding operands suits highIn isWord
   two-found h1 f =
       let s = shows form h1 rs in
       let n = least form op h1 h2 rs rd f in
       let l = shows-bit form op h1 h2 rs rd f in
-      let m = row form op (f .0) in
+      let m = row op (f .0) in
       let g : good (two s) ≡ true = rw (m .one-word, reg-wordy (s * 8 + rd) (omega arith), reg-wordy (h2 * 8 + rs) (omega arith)) in
       let x : eqb (0x4400 + op * 2 ^ 8) 0x4700 ≡ false = ne-eqb (0x4400 + op * 2 ^ 8) 0x4700 (λ e. let z : 0x4400 + op * 2 ^ 8 ≡ 0x4700 = e in omega arith) in
       found form pc H.HiRegOpOrBranchExchange tt (op ∷ s ∷ h2 ∷ rs ∷ rd ∷ []) (op ∷ h1 ∷ h2 ∷ rs ∷ rd ∷ []) f n (two s) (0x4400 + op * 2 ^ 8) m g
       (rw (x, word-nth 1 (two s) g, word-nth 2 (two s) g, reg-back (s * 8 + rd) (omega arith), reg-back (h2 * 8 + rs) (omega arith)) (omega arith))
-      (two-shown h1 f) (two-shown s (n .fits) ∙ ap (λ (s : ℕ). spell (two s)) (shows-twice form h1 rs))
+      (two-shown h1 f) (two-shown s (n .fits) ∙ ap (λ (s : ℕ). spell (two s)) (shows-twice form h1 rs)) refl
 
 module _ (form : Form) (pc h2 rs : ℕ) where
   abbrev one : Pieces
@@ -127,12 +126,12 @@ module _ (form : Form) (pc h2 rs : ℕ) where
       rw (r 0, src-is form 3 h1 h2 rs rd f)
 
   one-found : (h1 rd : ℕ) → Fields form 3 h1 h2 rs rd → Law form pc H.HiRegOpOrBranchExchange tt (hiRegWord 3 h1 h2 rs rd)
-  unfolding operands highIn op5Text opFormat5 isWord
+  unfolding operands suits highIn op5Text opFormat5 isWord
   one-found h1 rd f =
       let n = bx-least form h1 h2 rs rd f in
       let g : good one ≡ true = reg-wordy (h2 * 8 + rs) (omega arith) in
-      found form pc H.HiRegOpOrBranchExchange tt (3 ∷ 0 ∷ h2 ∷ rs ∷ 0 ∷ []) (3 ∷ h1 ∷ h2 ∷ rs ∷ rd ∷ []) f n one 0x4700 (row form 3 (omega arith)) g
-      (rw (word-nth 1 one g, reg-back (h2 * 8 + rs) (omega arith)) (omega arith)) (one-shown h1 rd f) (one-shown 0 0 (n .fits))
+      found form pc H.HiRegOpOrBranchExchange tt (3 ∷ 0 ∷ h2 ∷ rs ∷ 0 ∷ []) (3 ∷ h1 ∷ h2 ∷ rs ∷ rd ∷ []) f n one 0x4700 (row 3 (omega arith)) g
+      (rw (word-nth 1 one g, reg-back (h2 * 8 + rs) (omega arith)) (omega arith)) (one-shown h1 rd f) (one-shown 0 0 (n .fits)) refl
 
 pub highReg-law : (form : Form) (pc : ℕ) → Words form pc H.HiRegOpOrBranchExchange tt
 highReg-law form pc = thumb-words form H.HiRegOpOrBranchExchange tt (Law form pc H.HiRegOpOrBranchExchange tt) (λ op h1 h2 rs rd f e. by-op op h1 h2 rs rd f)

@@ -23,20 +23,21 @@ use Rattle.thumb_lowest.proofs.High.{highReg-law}
 use Rattle.thumb_lowest.proofs.Low.{addSub-law, aluOps-law, ldrStrHalfWord-law, ldrStrImmOffset-law, ldrStrRegOffset-law, ldrStrSHB-law, moveShiftedReg-law}
 use Rattle.thumb_lowest.proofs.Stack.{addSp-law, ldmStm-law, pushPop-law}
 use Rattle.thumb_lowest.proofs.Wide.{dataProcessImm-law, ldrPc-law, ldrStrSp-law, loadAddress-law, swi-law}
-use Rattle.thumb_lowest.specs.Candidate.{candidate, candidates, operands, rows}
+use Rattle.thumb_lowest.specs.Candidate.{candidate, candidates, operands, rows, suits}
 use Rattle.thumb_lowest.specs.Read.{readThumb}
 use Rattle.thumb_words.proofs.Rows.{undefined-least, undefined-lowest}
 use Rattle.arm7tdmi.specs.declared.thumb.ThumbFormat.the-variants as H
 
 -- ---- Undefined: the lowest such word
 undefined-law : (form : Form) (pc w : ℕ) → w < 2 ^ 16 → thumbFormat form w ≡ H.Undefined → Found form pc w (lineOf form H.Undefined pc w)
-unfolding thumbLine lineOf candidate operands rows isWord
+unfolding thumbLine lineOf candidate operands suits rows isWord
 undefined-law form pc w h e =
-    let c : candidate form pc (text "<Undefined>") 0xb100 ≡ 0xb100 = rw (undefined-lowest form) in
+    let c : candidate form pc (text "<Undefined>") H.Undefined 0xb100 ≡ 0xb100 = refl in
     record {
       index = 46;
       there = omega arith;
       begins = sym (word-of [] (text "<Undefined>") refl refl);
+      suited = refl;
       low = rw c (undefined-least form w h e);
       same-line = rw (c, e, undefined-lowest form);
     }

@@ -8,7 +8,6 @@ use mathlib.Core.List.{List, [], _++_, _∷_, map}
 use mathlib.Core.Path.{_∙_, _≡_, ap, refl}
 use native.Mathlib.Omega.{arith}
 use Rattle.arm7tdmi.proofs.Names.{reg-back, reg-wordy}
-use Rattle.arm7tdmi.specs.Kinds.{thumbRows}
 use Rattle.arm7tdmi.specs.Names.{regNames, regString}
 use Rattle.arm7tdmi.specs.Pieces.{either, ifSet, joined, regAt, registers, setBits}
 use Rattle.arm7tdmi.specs.declared.Form.{Form}
@@ -27,7 +26,7 @@ use Rattle.thumb_disass.specs.Print.{lineOf}
 use Rattle.thumb_lowest.proofs.Found.{Law, Words, exact, found, pick, row-is, rows-are}
 use Rattle.thumb_lowest.proofs.Parts.{flag-back, prefixed-back, prefixed-wordy, regroup}
 use Rattle.thumb_lowest.proofs.RegisterList.{behindWord, below-append, below16, bits-below, bits-few, bits-sum, list-back, list-first, list-good, list-spelled, same-bits, sum-append, sumOf}
-use Rattle.thumb_lowest.specs.Candidate.{blockIn, operands, rows, signed, spIn, stackIn}
+use Rattle.thumb_lowest.specs.Candidate.{blockIn, operands, rows, signed, spIn, stackIn, suits}
 use Rattle.thumb_lowest.specs.CandidateParts.{flag, listIn, regIn}
 use Rattle.thumb_words.proofs.Laws.{NoHigher, parts, thumb-lower, thumb-read, thumb-words}
 use Rattle.thumb_words.proofs.Parts.{Fits}
@@ -37,16 +36,16 @@ use Rattle.arm7tdmi.specs.declared.thumb.ThumbFormat.the-variants as H
 -- ---- add of sp
 -- sheet: "add\tsp, #0x..", "add\tsp, #-0x.."
 sheet-sp : (pc s imm : ℕ) → Fits (parts Sheet H.AddSp) (s ∷ imm ∷ []) → Law Sheet pc H.AddSp tt (addSpWord s imm)
-unfolding lineOf fmtThumbAddSp spOffset sheetSpOffset spSize ifSet operands spIn rows thumbRows first same has isWord
+unfolding lineOf fmtThumbAddSp spOffset sheetSpOffset spSize ifSet operands suits spIn rows first same has isWord
 sheet-sp pc s imm f =
     let xs = s ∷ imm ∷ [] in
     let r = thumb-read Sheet H.AddSp tt xs f in
     let ps = piece (text "add") (text "\t") (piece (text "sp") (pick s (text ", #-") (text ", #")) (last (prefixed 1 (imm * 4)))) in
     let g : good ps ≡ true = rw (prefixed-wordy 1 (imm * 4) (omega arith)) (by-test (eqb s 1) (λ e. rw e) (λ e. rw e)) in
     let minus : has 45 (spell ps) ≡ eqb s 1 = rw (has-gaps 45 ps refl g) (by-test (eqb s 1) (λ e. rw e) (λ e. rw e)) in
-    exact Sheet pc H.AddSp tt xs f ps 0xb000 (row-is Sheet H.AddSp (text "add") 0xb000 refl) g
+    exact Sheet pc H.AddSp tt xs f ps 0xb000 (row-is H.AddSp (text "add") 0xb000 refl) g
     (rw (minus, flag-back s (f .0), word-nth 2 ps g, prefixed-back 1 (imm * 4) (omega arith)) (omega arith))
-    (rw (r 0, r 1) (by-test (eqb s 1) (λ e. rw e) (λ e. rw e)))
+    (rw (r 0, r 1) (by-test (eqb s 1) (λ e. rw e) (λ e. rw e))) refl
 
 -- bench: "add\tsp, #{imm:x}", which shows no sign of zero
 abbrev spShown : ℕ → ℕ → ℕ
@@ -82,16 +81,16 @@ unfolding lineOf fmtThumbAddSp spOffset spBits spSize
 bench-sp-line pc s imm f = let r = thumb-read Bench H.AddSp tt (s ∷ imm ∷ []) f in rw (r 0, r 1)
 
 bench-sp : (pc s imm : ℕ) → Fits (parts Bench H.AddSp) (s ∷ imm ∷ []) → Law Bench pc H.AddSp tt (addSpWord s imm)
-unfolding operands spIn rows thumbRows first same isWord
+unfolding operands suits spIn rows first same isWord
 bench-sp pc s imm f =
     let v = spShown s imm in
     let l = sign-least s imm (f .0) (f .1 .0) in
     let n = thumb-lower Bench H.AddSp tt (signShown s imm ∷ imm ∷ []) (s ∷ imm ∷ []) (omega arith) f in
     let ps = piece (text "add") (text "\t") (piece (text "sp") (text ", #") (last (hex 1 v))) in
     let g : good ps ≡ true = hex-wordy 1 v (omega arith) in
-    found Bench pc H.AddSp tt (signShown s imm ∷ imm ∷ []) (s ∷ imm ∷ []) f n ps 0xb000 (row-is Bench H.AddSp (text "add") 0xb000 refl) g
+    found Bench pc H.AddSp tt (signShown s imm ∷ imm ∷ []) (s ∷ imm ∷ []) f n ps 0xb000 (row-is H.AddSp (text "add") 0xb000 refl) g
     (rw (word-nth 2 ps g, hex-back 1 v (shown-small s imm (f .0) (f .1 .0)), shown-back s imm (f .0) (f .1 .0)) (omega arith))
-    (bench-sp-line pc s imm f) (bench-sp-line pc (signShown s imm) imm (n .fits) ∙ rw (sign-same s imm (f .0) (f .1 .0)))
+    (bench-sp-line pc s imm f) (bench-sp-line pc (signShown s imm) imm (n .fits) ∙ rw (sign-same s imm (f .0) (f .1 .0))) refl
 
 sp-found : (form : Form) (pc s imm : ℕ) → Fits (parts form H.AddSp) (s ∷ imm ∷ []) → Law form pc H.AddSp tt (addSpWord s imm)
 sp-found Bench = bench-sp
@@ -128,13 +127,13 @@ map-more [] b = refl
 map-more (x ∷ xs) b = rw (map-more xs b)
 
 pub pushPop-law : (form : Form) (pc : ℕ) → Words form pc H.PushPop tt
-unfolding lineOf fmtThumbPushPop pushPopList linkName either operands stackIn rows thumbRows first same isWord
+unfolding lineOf fmtThumbPushPop pushPopList linkName either operands suits stackIn rows first same isWord
 pushPop-law form pc = thumb-words form H.PushPop tt (Law form pc H.PushPop tt) (λ l r list f e.
     let xs = l ∷ r ∷ list ∷ [] in
     let q = thumb-read form H.PushPop tt xs f in
     let raw = pushPopWord l r list in
     let m = pick l (text "pop") (text "push") in
-    let row = rows-are form H.PushPop 2 (λ l. pick l (text "pop") (text "push")) (λ l. 0xb400 + l * 2 ^ 11) refl l (f .0) in
+    let row = rows-are H.PushPop 2 (λ l. pick l (text "pop") (text "push")) (λ l. 0xb400 + l * 2 ^ 11) refl l (f .0) in
     let u = more l r list (f .0) (f .1 .0) (f .1 .1 .0) in
     let c = more-below l r list (f .0) (f .1 .0) (f .1 .1 .0) in
     let ns = setBits raw 8 ++ u in
@@ -149,7 +148,7 @@ pushPop-law form pc = thumb-words form H.PushPop tt (Law form pc H.PushPop tt) (
     (rw (q 0, q 1, link-is l (f .0), list-spelled m (text "\t{") ns (text "}"), map-more (setBits raw 8) u)
     (by-test (eqb r 1)
     (λ e. rw e (regroup m (text "\t{" ∷ joined (map regString (setBits raw 8) ++ (regString (14 + l) ∷ [])) ∷ text "}" ∷ [])))
-    (λ e. rw e (regroup m (text "\t{" ∷ joined (map regString (setBits raw 8) ++ []) ∷ text "}" ∷ []))))))
+    (λ e. rw e (regroup m (text "\t{" ∷ joined (map regString (setBits raw 8) ++ []) ∷ text "}" ∷ []))))) refl)
 
 -- ---- ldm and stm: "{op}\t{Rb}!, {", the registers, "}"
 -- the register that the line shows as base, and what the lowest word has in bits 10-8
@@ -201,12 +200,12 @@ module _ (form : Form) (pc l list : ℕ) where
       (regroup m (text "\t" ∷ b ∷ text "!, {" ∷ joined (map regString (setBits list 8)) ∷ text "}" ∷ []))
 
   block-found : (rb : ℕ) → Block form l rb list → Law form pc H.LdmStm tt (ldmStmWord l rb list)
-  unfolding operands rows thumbRows first same isWord
+  unfolding operands suits rows first same isWord
   block-found rb f =
       let n = block-least form l rb list f in
       let r = base form rb list in
       let small = base-small form l rb list f in
-      let row = rows-are form H.LdmStm 2 (λ l. pick l (text "ldm") (text "stm")) (λ l. 0xc000 + l * 2 ^ 11) refl l (f .0) in
+      let row = rows-are H.LdmStm 2 (λ l. pick l (text "ldm") (text "stm")) (λ l. 0xc000 + l * 2 ^ 11) refl l (f .0) in
       let b = bits-below list 8 (omega arith) in
       let tail : good (behindWord (regString r) (text "!, {") (setBits list 8) (text "}")) ≡ true =
       list-good (text "}") refl (regString r) (text "!, {") (setBits list 8) (reg-wordy r (omega arith)) refl b in
@@ -216,7 +215,7 @@ module _ (form : Form) (pc l list : ℕ) where
       rw (from-nth 2 (block r) g .0) (list-back (text "}") refl 8 (regString r) (text "!, {") (setBits list 8) (bits-few list 8) b ∙ bits-sum list 8 ∙ omega arith) in
       found form pc H.LdmStm tt (l ∷ kept form rb ∷ list ∷ []) (l ∷ rb ∷ list ∷ []) f n (block r) (0xc000 + l * 2 ^ 11) row g
       (rw (block-in form rb list (spell (block r)) first-is names) (omega arith))
-      (block-shown rb f) (block-shown (kept form rb) (n .fits) ∙ ap (λ (x : ℕ). spell (block x)) (base-kept form rb list))
+      (block-shown rb f) (block-shown (kept form rb) (n .fits) ∙ ap (λ (x : ℕ). spell (block x)) (base-kept form rb list)) refl
 
 pub ldmStm-law : (form : Form) (pc : ℕ) → Words form pc H.LdmStm tt
 ldmStm-law form pc = thumb-words form H.LdmStm tt (Law form pc H.LdmStm tt) (λ l rb list f e. block-found form pc l list rb f)

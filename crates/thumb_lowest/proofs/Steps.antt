@@ -16,9 +16,9 @@ use Rattle.reading.specs.Read.{isLine}
 use Rattle.text.proofs.Packed.{Bytes, find-packed, fit}
 use Rattle.text.specs.Word.{packed, word}
 use Rattle.thumb_disass.specs.Print.{thumbLine}
-use Rattle.thumb_lowest.proofs.Found.{rowAt, rows-many}
+use Rattle.thumb_lowest.proofs.Found.{rows-many}
 use Rattle.thumb_lowest.proofs.Read.{read-thumb}
-use Rattle.thumb_lowest.specs.Candidate.{candidate, candidates, candidatesFrom, rows}
+use Rattle.thumb_lowest.specs.Candidate.{candidate, candidates, candidatesFrom, noRow, rowAt, rows, suits}
 use Rattle.thumb_lowest.specs.Read.{readThumb}
 
 -- ---- a row's mnemonic is found by its number
@@ -52,18 +52,27 @@ module _ (form : Form) (pc : ℕ) (l : List ℕ) where
   module _ (i : ℕ) (h : i < 70) where
     at-row : readFrom i ≡ best prints (2 ^ 16) (candidatesFrom form pc l (rowAt i ∷ drop (i + 1) rows))
     unfolding readFrom
-    at-row = rw (drop-cons rows i (record { name = []; bits = 0 }) (let m = rows-many in omega arith), add-one)
+    at-row = rw (drop-cons rows i noRow (let m = rows-many in omega arith), add-one)
 
-    -- the row has another mnemonic; its candidate does not print the line; it does
+    -- the candidate of the row
+    abbrev pub candidateAt : ℕ
+    candidateAt = candidate form pc l (rowAt i .kind) (rowAt i .bits)
+
+    -- the row has another mnemonic
     pub from-other : same (rowAt i .name) (word l) ≡ false → readFrom i ≡ readFrom (i + 1)
     unfolding readFrom
     from-other e = at-row ∙ rw e
 
-    pub from-fails : same (rowAt i .name) (word l) ≡ true → isLine (thumbLine form pc (candidate form pc l (rowAt i .bits))) l ≡ false → readFrom i ≡ readFrom (i + 1)
-    unfolding readFrom best
-    from-fails e t = at-row ∙ rw (e, t)
+    -- its kind does not suit; its candidate does not print the line; it does
+    module _ (e : same (rowAt i .name) (word l) ≡ true) where
+      pub from-unsuited : suits (rowAt i .kind) l ≡ false → readFrom i ≡ readFrom (i + 1)
+      unfolding readFrom
+      from-unsuited u = at-row ∙ rw (e, u)
 
-    pub from-prints : same (rowAt i .name) (word l) ≡ true → isLine (thumbLine form pc (candidate form pc l (rowAt i .bits))) l ≡ true →
-        readFrom i ≡ min (candidate form pc l (rowAt i .bits)) (readFrom (i + 1))
-    unfolding readFrom best
-    from-prints e t = at-row ∙ rw (e, t)
+      pub from-fails : suits (rowAt i .kind) l ≡ true → isLine (thumbLine form pc candidateAt) l ≡ false → readFrom i ≡ readFrom (i + 1)
+      unfolding readFrom best
+      from-fails u t = at-row ∙ rw (e, u, t)
+
+      pub from-prints : suits (rowAt i .kind) l ≡ true → isLine (thumbLine form pc candidateAt) l ≡ true → readFrom i ≡ min candidateAt (readFrom (i + 1))
+      unfolding readFrom best
+      from-prints u t = at-row ∙ rw (e, u, t)

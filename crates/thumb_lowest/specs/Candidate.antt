@@ -1,18 +1,18 @@
 -- The candidates for a line: for each kind that prints its mnemonic one word, from the line's words and marks; some number on anything else. The reader's plan; nothing of the promise rests on it. Assumes nothing.
 use Prim.Native.Nat.{_%_, _*_, _+_, _-_, _/_, _^_, ℕ}
 use lib.Dec.{eqb, ltb}
-use mathlib.Core.Bool.{Bool, cond, false, true}
-use mathlib.Core.List.{List, [], _∷_}
-use Rattle.arm7tdmi.specs.Kinds.{thumbFormat}
+use lib.ListN.{drop, getD}
+use mathlib.Core.Bool.{Bool, _&&_, cond, false, true}
+use mathlib.Core.List.{List, [], _∷_, map}
 use Rattle.arm7tdmi.specs.Signed.{moved}
 use Rattle.arm7tdmi.specs.declared.Form.{Form}
 use Rattle.arm7tdmi.specs.declared.Form.the-variants.{Bench, Sheet}
 use Rattle.arm7tdmi.specs.declared.thumb.ThumbFormat.{ThumbFormat}
 use Rattle.arm7tdmi.specs.declared.thumb.ThumbFormat.the-variants as H
 use Rattle.common.specs.Bits.{bit}
-use Rattle.common.specs.Lists.{same}
+use Rattle.common.specs.Lists.{find, same}
 use Rattle.text.specs.Text.{text}
-use Rattle.text.specs.Word.{fromWord, has, word}
+use Rattle.text.specs.Word.{fromWord, has, packed, word}
 use Rattle.thumb_lowest.specs.CandidateParts.{bareIn, decIn, flag, hexIn, listIn, regIn}
 
 -- ---- the operands of each kind, as the bits that they fill in
@@ -87,96 +87,136 @@ operands H.Branch b form pc l = offsetIn pc l % 2 ^ 11
 operands H.BranchLongWithLink b form pc l = hexIn 1 l / callUnit b % 2 ^ 11
 operands H.Undefined b form pc l = 0
 
--- ---- the mnemonics, each with the word that has it and no operands, in the order of the words. A line of MoveShiftedReg and that of Undefined begin with no
--- word: their first letters are capitals and `<`. No mnemonic has more than five rows
+-- ---- the lines that a kind may have printed, of those with its mnemonic: by the registers that words 2 and 3 name
+unfoldable pub suits : ThumbFormat → List ℕ → Bool
+suits H.MoveShiftedReg l = true
+suits H.AddSub l = ltb (regIn 2 l) 8
+suits H.DataProcessImm l = eqb (regIn 2 l) 16
+suits H.AluOps l = true
+suits H.HiRegOpOrBranchExchange l = true
+suits H.LdrPc l = eqb (regIn 2 l) 15
+suits H.LdrStrRegOffset l = ltb (regIn 3 l) 8
+suits H.LdrStrSHB l = ltb (regIn 3 l) 8
+suits H.LdrStrImmOffset l = ltb (regIn 2 l) 8
+suits H.LdrStrHalfWord l = ltb (regIn 2 l) 8
+suits H.LdrStrSp l = eqb (regIn 2 l) 13
+suits H.LoadAddress l = ltb 12 (regIn 2 l)
+suits H.AddSp l = true
+suits H.PushPop l = true
+suits H.LdmStm l = true
+suits H.BranchConditional l = true
+suits H.Swi l = true
+suits H.Branch l = true
+suits H.BranchLongWithLink l = true
+suits H.Undefined l = true
+
+-- ---- the mnemonics, each with the word that has it and no operands, in the order of the words, and that word's kind on the bench. A line of MoveShiftedReg
+-- and that of Undefined begin with no word: their first letters are capitals and `<`. No mnemonic has more than five rows
 pub record Row : Type 0 where
   pub name : List ℕ
   pub bits : ℕ
+  pub kind : ThumbFormat
 
-abbrev row : List ℕ → ℕ → Row
-row t b = record { name = t; bits = b }
+abbrev row : List ℕ → ℕ → ThumbFormat → Row
+row t b k = record { name = t; bits = b; kind = k }
 
 unfoldable pub rows : List Row
 rows =
-    row [] 0x0000 ∷
-    row (text "add") 0x1800 ∷
-    row (text "sub") 0x1a00 ∷
-    row (text "mov") 0x2000 ∷
-    row (text "cmp") 0x2800 ∷
-    row (text "add") 0x3000 ∷
-    row (text "sub") 0x3800 ∷
-    row (text "and") 0x4000 ∷
-    row (text "eor") 0x4040 ∷
-    row (text "lsl") 0x4080 ∷
-    row (text "lsr") 0x40c0 ∷
-    row (text "asr") 0x4100 ∷
-    row (text "adc") 0x4140 ∷
-    row (text "sbc") 0x4180 ∷
-    row (text "ror") 0x41c0 ∷
-    row (text "tst") 0x4200 ∷
-    row (text "neg") 0x4240 ∷
-    row (text "cmp") 0x4280 ∷
-    row (text "cmn") 0x42c0 ∷
-    row (text "orr") 0x4300 ∷
-    row (text "mul") 0x4340 ∷
-    row (text "bic") 0x4380 ∷
-    row (text "mvn") 0x43c0 ∷
-    row (text "add") 0x4400 ∷
-    row (text "cmp") 0x4500 ∷
-    row (text "mov") 0x4600 ∷
-    row (text "bx") 0x4700 ∷
-    row (text "ldr") 0x4800 ∷
-    row (text "str") 0x5000 ∷
-    row (text "strh") 0x5200 ∷
-    row (text "strb") 0x5400 ∷
-    row (text "ldsb") 0x5600 ∷
-    row (text "ldr") 0x5800 ∷
-    row (text "ldrh") 0x5a00 ∷
-    row (text "ldrb") 0x5c00 ∷
-    row (text "ldsh") 0x5e00 ∷
-    row (text "str") 0x6000 ∷
-    row (text "ldr") 0x6800 ∷
-    row (text "strb") 0x7000 ∷
-    row (text "ldrb") 0x7800 ∷
-    row (text "strh") 0x8000 ∷
-    row (text "ldrh") 0x8800 ∷
-    row (text "str") 0x9000 ∷
-    row (text "ldr") 0x9800 ∷
-    row (text "add") 0xa000 ∷
-    row (text "add") 0xb000 ∷
-    row [] 0xb100 ∷
-    row (text "push") 0xb400 ∷
-    row (text "pop") 0xbc00 ∷
-    row (text "stm") 0xc000 ∷
-    row (text "ldm") 0xc800 ∷
-    row (text "beq") 0xd000 ∷
-    row (text "bne") 0xd100 ∷
-    row (text "bcs") 0xd200 ∷
-    row (text "bcc") 0xd300 ∷
-    row (text "bmi") 0xd400 ∷
-    row (text "bpl") 0xd500 ∷
-    row (text "bvs") 0xd600 ∷
-    row (text "bvc") 0xd700 ∷
-    row (text "bhi") 0xd800 ∷
-    row (text "bls") 0xd900 ∷
-    row (text "bge") 0xda00 ∷
-    row (text "blt") 0xdb00 ∷
-    row (text "bgt") 0xdc00 ∷
-    row (text "ble") 0xdd00 ∷
-    row (text "b") 0xde00 ∷
-    row (text "swi") 0xdf00 ∷
-    row (text "b") 0xe000 ∷
-    row (text "bl") 0xf000 ∷
-    row (text "bl") 0xf800 ∷
+    row [] 0x0000 H.MoveShiftedReg ∷
+    row (text "add") 0x1800 H.AddSub ∷
+    row (text "sub") 0x1a00 H.AddSub ∷
+    row (text "mov") 0x2000 H.DataProcessImm ∷
+    row (text "cmp") 0x2800 H.DataProcessImm ∷
+    row (text "add") 0x3000 H.DataProcessImm ∷
+    row (text "sub") 0x3800 H.DataProcessImm ∷
+    row (text "and") 0x4000 H.AluOps ∷
+    row (text "eor") 0x4040 H.AluOps ∷
+    row (text "lsl") 0x4080 H.AluOps ∷
+    row (text "lsr") 0x40c0 H.AluOps ∷
+    row (text "asr") 0x4100 H.AluOps ∷
+    row (text "adc") 0x4140 H.AluOps ∷
+    row (text "sbc") 0x4180 H.AluOps ∷
+    row (text "ror") 0x41c0 H.AluOps ∷
+    row (text "tst") 0x4200 H.AluOps ∷
+    row (text "neg") 0x4240 H.AluOps ∷
+    row (text "cmp") 0x4280 H.AluOps ∷
+    row (text "cmn") 0x42c0 H.AluOps ∷
+    row (text "orr") 0x4300 H.AluOps ∷
+    row (text "mul") 0x4340 H.AluOps ∷
+    row (text "bic") 0x4380 H.AluOps ∷
+    row (text "mvn") 0x43c0 H.AluOps ∷
+    row (text "add") 0x4400 H.HiRegOpOrBranchExchange ∷
+    row (text "cmp") 0x4500 H.HiRegOpOrBranchExchange ∷
+    row (text "mov") 0x4600 H.HiRegOpOrBranchExchange ∷
+    row (text "bx") 0x4700 H.HiRegOpOrBranchExchange ∷
+    row (text "ldr") 0x4800 H.LdrPc ∷
+    row (text "str") 0x5000 H.LdrStrRegOffset ∷
+    row (text "strh") 0x5200 H.LdrStrSHB ∷
+    row (text "strb") 0x5400 H.LdrStrRegOffset ∷
+    row (text "ldsb") 0x5600 H.LdrStrSHB ∷
+    row (text "ldr") 0x5800 H.LdrStrRegOffset ∷
+    row (text "ldrh") 0x5a00 H.LdrStrSHB ∷
+    row (text "ldrb") 0x5c00 H.LdrStrRegOffset ∷
+    row (text "ldsh") 0x5e00 H.LdrStrSHB ∷
+    row (text "str") 0x6000 H.LdrStrImmOffset ∷
+    row (text "ldr") 0x6800 H.LdrStrImmOffset ∷
+    row (text "strb") 0x7000 H.LdrStrImmOffset ∷
+    row (text "ldrb") 0x7800 H.LdrStrImmOffset ∷
+    row (text "strh") 0x8000 H.LdrStrHalfWord ∷
+    row (text "ldrh") 0x8800 H.LdrStrHalfWord ∷
+    row (text "str") 0x9000 H.LdrStrSp ∷
+    row (text "ldr") 0x9800 H.LdrStrSp ∷
+    row (text "add") 0xa000 H.LoadAddress ∷
+    row (text "add") 0xb000 H.AddSp ∷
+    row [] 0xb100 H.Undefined ∷
+    row (text "push") 0xb400 H.PushPop ∷
+    row (text "pop") 0xbc00 H.PushPop ∷
+    row (text "stm") 0xc000 H.LdmStm ∷
+    row (text "ldm") 0xc800 H.LdmStm ∷
+    row (text "beq") 0xd000 H.BranchConditional ∷
+    row (text "bne") 0xd100 H.BranchConditional ∷
+    row (text "bcs") 0xd200 H.BranchConditional ∷
+    row (text "bcc") 0xd300 H.BranchConditional ∷
+    row (text "bmi") 0xd400 H.BranchConditional ∷
+    row (text "bpl") 0xd500 H.BranchConditional ∷
+    row (text "bvs") 0xd600 H.BranchConditional ∷
+    row (text "bvc") 0xd700 H.BranchConditional ∷
+    row (text "bhi") 0xd800 H.BranchConditional ∷
+    row (text "bls") 0xd900 H.BranchConditional ∷
+    row (text "bge") 0xda00 H.BranchConditional ∷
+    row (text "blt") 0xdb00 H.BranchConditional ∷
+    row (text "bgt") 0xdc00 H.BranchConditional ∷
+    row (text "ble") 0xdd00 H.BranchConditional ∷
+    row (text "b") 0xde00 H.BranchConditional ∷
+    row (text "swi") 0xdf00 H.Swi ∷
+    row (text "b") 0xe000 H.Branch ∷
+    row (text "bl") 0xf000 H.BranchLongWithLink ∷
+    row (text "bl") 0xf800 H.BranchLongWithLink ∷
     []
 
--- ---- the candidate of a word with a mnemonic and no operands, and those of the rows whose mnemonic is the line's first word
-unfoldable pub candidate : Form → ℕ → List ℕ → ℕ → ℕ
-candidate form pc l b = (b + operands (thumbFormat form b) b form pc l) % 2 ^ 16
+-- row i; the mnemonics as numbers; and the next row of the same mnemonic, or 70
+abbrev pub noRow : Row
+noRow = row [] 0 H.Undefined
+
+abbrev pub rowAt : ℕ → Row
+rowAt i = getD rows i noRow
+
+abbrev pub codes : List ℕ
+codes = map (λ (r : Row). packed (r .name)) rows
+
+abbrev pub nextRow : ℕ → ℕ
+nextRow i = i + 1 + find (getD codes i 0) (drop (i + 1) codes)
+
+-- ---- the candidate of a kind and a word with a mnemonic and no operands; and those of the rows whose mnemonic is the line's first word, and whose kind suits
+unfoldable pub candidate : Form → ℕ → List ℕ → ThumbFormat → ℕ → ℕ
+candidate form pc l k b = (b + operands k b form pc l) % 2 ^ 16
 
 abbrev pub candidatesFrom : Form → ℕ → List ℕ → List Row → List ℕ
 candidatesFrom form pc l [] = []
-candidatesFrom form pc l (r ∷ rs) = cond (same (r .name) (word l)) (candidate form pc l (r .bits) ∷ candidatesFrom form pc l rs) (candidatesFrom form pc l rs)
+candidatesFrom form pc l (r ∷ rs) =
+    cond (same (r .name) (word l) && suits (r .kind) l)
+    (candidate form pc l (r .kind) (r .bits) ∷ candidatesFrom form pc l rs)
+    (candidatesFrom form pc l rs)
 
 unfoldable pub candidates : Form → ℕ → List ℕ → List ℕ
 candidates form pc l = candidatesFrom form pc l rows

@@ -1,3 +1,3 @@
 pub mod Names
 pub mod Printing
-pub mod Rows
+pub mod Turns

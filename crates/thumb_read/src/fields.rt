@@ -1,44 +1,43 @@
-// What the operands of a line fill in, of each kind. `one`, `two` and `three` are the line from those words on.
+// What the operands of a line fill in, of each kind. `one`, `two` and `three` are the line from those words on; `first`, `second` and `third` are the registers
+// that they name.
 ghost use mathlib.Core.Path.{_≡_};
 ghost use mathlib.Core.List.{List};
 ghost use mathlib.Core.Bool.{cond, true, false};
 ghost use Prim.Native.Nat.{ℕ, _+_, _*_, _-_, _/_, _%_, _≤_, _<_, _^_};
 ghost use lib.Dec.{eqb, ltb};
 ghost use lib.ListN.{drop};
-ghost use Rattle.arm7tdmi.specs.Names.{regNamed};
 ghost use Rattle.arm7tdmi.specs.Signed.{moved};
 ghost use Rattle.text.specs.Digits.{value};
 ghost use Rattle.text.specs.Word.{after, has, word};
 ghost use Rattle.thumb_lowest.specs.Candidate.{blockIn, callUnit, shiftIn, signed, spIn, transferUnit};
-ghost use Rattle.thumb_lowest.specs.CandidateParts.{flag, listIn};
+ghost use Rattle.thumb_lowest.specs.CandidateParts.{flag, listIn, regIn};
 use crate::parts::as_flag;
 use crate::parts::bare;
 use crate::parts::decimal;
 use crate::parts::hexadecimal;
-use crate::parts::register;
 use crate::parts::register_list;
 use arm7tdmi::Form;
 use text::read::contains;
 
 // Rd and Rs, or Rd and Rb.
-pub fn low(one: &[u8], two: &[u8]) -> u64
-    ensures { λ r. ⌜ (r ≡ regNamed (word (now (two .entry))) * 2 ^ 3 + regNamed (word (now (one .entry)))) × (r ≤ 144) ⌝ }
+pub fn low(first: u8, second: u8) -> u64
+    ensures { λ r. ⌜ (r ≡ second * 2 ^ 3 + first) × (r < 2 ^ 12) ⌝ }
 {
-    register(two) * 8 + register(one)
+    second as u64 * 8 + first as u64
 }
 
 // Ro, Rd and Rb.
-pub fn three_low(one: &[u8], two: &[u8], three: &[u8]) -> u64
-    ensures { λ r. ⌜ (r ≡ regNamed (word (now (three .entry))) * 2 ^ 6 + (regNamed (word (now (two .entry))) * 2 ^ 3 + regNamed (word (now (one .entry))))) × (r < 2 ^ 20) ⌝ }
+pub fn three_low(first: u8, second: u8, third: u8) -> u64
+    ensures { λ r. ⌜ (r ≡ third * 2 ^ 6 + (second * 2 ^ 3 + first)) × (r < 2 ^ 20) ⌝ }
 {
-    register(three) * 64 + low(one, two)
+    third as u64 * 64 + low(first, second)
 }
 
 // Rd and a quarter of the number.
-pub fn wide(one: &[u8], three: &[u8]) -> u64
-    ensures { λ r. ⌜ (r ≡ regNamed (word (now (one .entry))) * 2 ^ 8 + value 16 (drop 2 (word (now (three .entry)))) / 4 % 2 ^ 8) × (r < 2 ^ 13) ⌝ }
+pub fn wide(first: u8, three: &[u8]) -> u64
+    ensures { λ r. ⌜ (r ≡ first * 2 ^ 8 + value 16 (drop 2 (word (now (three .entry)))) / 4 % 2 ^ 8) × (r < 2 ^ 17) ⌝ }
 {
-    register(one) * 256 + hexadecimal(three) / 4 % 256
+    first as u64 * 256 + hexadecimal(three) / 4 % 256
 }
 
 // LSL, LSR and ASR, by their capitals.
@@ -52,45 +51,45 @@ fn shift(line: &[u8]) -> u64
 }
 
 // A shift by a number.
-pub fn shifted(line: &[u8], one: &[u8], two: &[u8], three: &[u8]) -> u64
-    ensures { λ r. ⌜ (r ≡ shiftIn (now (line .entry)) * 2 ^ 11 + value 10 (word (now (three .entry))) % 2 ^ 5 * 2 ^ 6 + (regNamed (word (now (two .entry))) * 2 ^ 3 + regNamed (word (now (one .entry))))) × (r < 2 ^ 20) ⌝ }
+pub fn shifted(line: &[u8], first: u8, second: u8, three: &[u8]) -> u64
+    ensures { λ r. ⌜ (r ≡ shiftIn (now (line .entry)) * 2 ^ 11 + value 10 (word (now (three .entry))) % 2 ^ 5 * 2 ^ 6 + (second * 2 ^ 3 + first)) × (r < 2 ^ 20) ⌝ }
 {
-    shift(line) * 2048 + decimal(three) % 32 * 64 + low(one, two)
+    shift(line) * 2048 + decimal(three) % 32 * 64 + low(first, second)
 }
 
 // The last operand of add and sub: a number, which `#` says, or a register.
-fn last_of(line: &[u8], three: &[u8]) -> u64
-    ensures { λ r. ⌜ (r ≡ cond (has 35 (now (line .entry))) (2 ^ 10 + value 16 (word (now (three .entry))) % 2 ^ 3 * 2 ^ 6) (regNamed (word (now (three .entry))) * 2 ^ 6)) × (r ≤ 2 ^ 11) ⌝ }
+fn last_of(line: &[u8], third: u8, three: &[u8]) -> u64
+    ensures { λ r. ⌜ (r ≡ cond (has 35 (now (line .entry))) (2 ^ 10 + value 16 (word (now (three .entry))) % 2 ^ 3 * 2 ^ 6) (third * 2 ^ 6)) × (r < 2 ^ 14) ⌝ }
 {
     if contains(line, b'#') {
         return 1024 + bare(three) % 8 * 64;
     }
-    register(three) * 64
+    third as u64 * 64
 }
 
 // add and sub.
-pub fn add_sub(line: &[u8], one: &[u8], two: &[u8], three: &[u8]) -> u64
-    ensures { λ r. ⌜ (r ≡ cond (has 35 (now (line .entry))) (2 ^ 10 + value 16 (word (now (three .entry))) % 2 ^ 3 * 2 ^ 6) (regNamed (word (now (three .entry))) * 2 ^ 6) + (regNamed (word (now (two .entry))) * 2 ^ 3 + regNamed (word (now (one .entry))))) × (r < 2 ^ 20) ⌝ }
+pub fn add_sub(line: &[u8], first: u8, second: u8, third: u8, three: &[u8]) -> u64
+    ensures { λ r. ⌜ (r ≡ cond (has 35 (now (line .entry))) (2 ^ 10 + value 16 (word (now (three .entry))) % 2 ^ 3 * 2 ^ 6) (third * 2 ^ 6) + (second * 2 ^ 3 + first)) × (r < 2 ^ 20) ⌝ }
 {
-    last_of(line, three) + low(one, two)
+    last_of(line, third, three) + low(first, second)
 }
 
 // A register and a byte.
-pub fn with_byte(one: &[u8], two: &[u8]) -> u64
-    ensures { λ r. ⌜ (r ≡ regNamed (word (now (one .entry))) * 2 ^ 8 + value 16 (drop 2 (word (now (two .entry)))) % 2 ^ 8) × (r < 2 ^ 20) ⌝ }
+pub fn with_byte(first: u8, two: &[u8]) -> u64
+    ensures { λ r. ⌜ (r ≡ first * 2 ^ 8 + value 16 (drop 2 (word (now (two .entry)))) % 2 ^ 8) × (r < 2 ^ 20) ⌝ }
 {
-    register(one) * 256 + hexadecimal(two) % 256
+    first as u64 * 256 + hexadecimal(two) % 256
 }
 
 // High registers; bx, of the bits 0x4700, has a source alone.
-pub fn high(b: u64, one: &[u8], two: &[u8]) -> u64
-    ensures { λ r. ⌜ (r ≡ cond (eqb b 0x4700) (regNamed (word (now (one .entry))) * 2 ^ 3) (regNamed (word (now (one .entry))) / 2 ^ 3 * 2 ^ 7 + regNamed (word (now (two .entry))) * 2 ^ 3 + regNamed (word (now (one .entry))) % 2 ^ 3)) × (r < 2 ^ 20) ⌝ }
+pub fn high(b: u64, first: u8, second: u8) -> u64
+    ensures { λ r. ⌜ (r ≡ cond (eqb b 0x4700) (first * 2 ^ 3) (first / 2 ^ 3 * 2 ^ 7 + second * 2 ^ 3 + first % 2 ^ 3)) × (r < 2 ^ 20) ⌝ }
 {
-    let first = register(one);
+    let n = first as u64;
     if b == 0x4700 {
-        return first * 8;
+        return n * 8;
     }
-    first / 8 * 128 + register(two) * 8 + first % 8
+    n / 8 * 128 + second as u64 * 8 + n % 8
 }
 
 // By how much a transfer's number is counted.
@@ -104,24 +103,24 @@ fn transfer_unit(b: u64) -> u64
 }
 
 // A transfer with a number.
-pub fn with_number(b: u64, one: &[u8], two: &[u8], three: &[u8]) -> u64
-    ensures { λ r. ⌜ (r ≡ value 16 (drop 2 (word (now (three .entry)))) / transferUnit b % 2 ^ 5 * 2 ^ 6 + (regNamed (word (now (two .entry))) * 2 ^ 3 + regNamed (word (now (one .entry))))) × (r < 2 ^ 20) ⌝ }
+pub fn with_number(b: u64, first: u8, second: u8, three: &[u8]) -> u64
+    ensures { λ r. ⌜ (r ≡ value 16 (drop 2 (word (now (three .entry)))) / transferUnit b % 2 ^ 5 * 2 ^ 6 + (second * 2 ^ 3 + first)) × (r < 2 ^ 20) ⌝ }
 {
-    hexadecimal(three) / transfer_unit(b) % 32 * 64 + low(one, two)
+    hexadecimal(three) / transfer_unit(b) % 32 * 64 + low(first, second)
 }
 
 // The same of a halfword.
-pub fn with_half(one: &[u8], two: &[u8], three: &[u8]) -> u64
-    ensures { λ r. ⌜ (r ≡ value 16 (drop 2 (word (now (three .entry)))) / 2 % 2 ^ 5 * 2 ^ 6 + (regNamed (word (now (two .entry))) * 2 ^ 3 + regNamed (word (now (one .entry))))) × (r < 2 ^ 20) ⌝ }
+pub fn with_half(first: u8, second: u8, three: &[u8]) -> u64
+    ensures { λ r. ⌜ (r ≡ value 16 (drop 2 (word (now (three .entry)))) / 2 % 2 ^ 5 * 2 ^ 6 + (second * 2 ^ 3 + first)) × (r < 2 ^ 20) ⌝ }
 {
-    hexadecimal(three) / 2 % 32 * 64 + low(one, two)
+    hexadecimal(three) / 2 % 32 * 64 + low(first, second)
 }
 
 // An address from pc or sp.
-pub fn address(one: &[u8], two: &[u8], three: &[u8]) -> u64
-    ensures { λ r. ⌜ (r ≡ flag (eqb (regNamed (word (now (two .entry)))) 13) * 2 ^ 11 + (regNamed (word (now (one .entry))) * 2 ^ 8 + value 16 (drop 2 (word (now (three .entry)))) / 4 % 2 ^ 8)) × (r < 2 ^ 20) ⌝ }
+pub fn address(first: u8, second: u8, three: &[u8]) -> u64
+    ensures { λ r. ⌜ (r ≡ flag (eqb second 13) * 2 ^ 11 + (first * 2 ^ 8 + value 16 (drop 2 (word (now (three .entry)))) / 4 % 2 ^ 8)) × (r < 2 ^ 20) ⌝ }
 {
-    as_flag(register(two) == 13) * 2048 + wide(one, three)
+    as_flag(second == 13) * 2048 + wide(first, three)
 }
 
 // The number that sp is moved by, and its sign.
@@ -170,13 +169,13 @@ pub fn stack(one: &[u8]) -> u64
 }
 
 // The base and the registers; the bench shows the registers alone.
-pub fn block(form: Form, one: &[u8], two: &[u8]) -> u64
-    ensures { λ r. ⌜ ((l : List ℕ) → now (one .entry) ≡ after l → now (two .entry) ≡ after (after l) → r ≡ blockIn form l) × (r < 2 ^ 20) ⌝ }
+pub fn block(form: Form, first: u8, two: &[u8]) -> u64
+    ensures { λ r. ⌜ ((l : List ℕ) → first ≡ regIn 1 l → now (two .entry) ≡ after (after l) → r ≡ blockIn form l) × (r < 2 ^ 20) ⌝ }
 {
     let list = register_list(8, two);
     match form {
         Form::Bench => list,
-        Form::Sheet => register(one) * 256 + list,
+        Form::Sheet => first as u64 * 256 + list,
     }
 }
 

@@ -1,8 +1,10 @@
 // The candidate of a row.
 ghost use mathlib.Core.Path.{_≡_};
-ghost use Prim.Native.Nat.{_<_, _^_};
+ghost use mathlib.Core.List.{List};
+ghost use Prim.Native.Nat.{ℕ, _<_, _^_};
 ghost use Rattle.text.specs.Word.{after};
-ghost use Rattle.thumb_lowest.specs.Candidate.{candidate, operands};
+ghost use Rattle.thumb_lowest.specs.Candidate.{candidate, operands, suits};
+ghost use Rattle.thumb_read.specs.Regs.{Named};
 use crate::fields::add_sub;
 use crate::fields::address;
 use crate::fields::block;
@@ -18,10 +20,41 @@ use crate::fields::wide;
 use crate::fields::with_byte;
 use crate::fields::with_half;
 use crate::fields::with_number;
+use crate::parts::Regs;
 use crate::parts::hexadecimal;
+use crate::rows::Row;
 use arm7tdmi::Form;
 use arm7tdmi::thumb::ThumbFormat;
-use arm7tdmi::thumb::thumb_format;
+
+// Whether a kind may have printed a line with its mnemonic, by the registers that words 2 and 3 name.
+pub fn suits(fmt: ThumbFormat, regs: Regs) -> bool
+    ensures { λ r. ⌜ ((l : List ℕ) → Named regs l → r ≡ suits fmt l) ⌝ }
+{
+    let second = regs.1;
+    let third = regs.2;
+    match fmt {
+        ThumbFormat::MoveShiftedReg => true,
+        ThumbFormat::AddSub => second < 8,
+        ThumbFormat::DataProcessImm => second == 16,
+        ThumbFormat::AluOps => true,
+        ThumbFormat::HiRegOpOrBranchExchange => true,
+        ThumbFormat::LdrPc => second == 15,
+        ThumbFormat::LdrStrRegOffset => third < 8,
+        ThumbFormat::LdrStrSHB => third < 8,
+        ThumbFormat::LdrStrImmOffset => second < 8,
+        ThumbFormat::LdrStrHalfWord => second < 8,
+        ThumbFormat::LdrStrSp => second == 13,
+        ThumbFormat::LoadAddress => 12 < second,
+        ThumbFormat::AddSp => true,
+        ThumbFormat::PushPop => true,
+        ThumbFormat::LdmStm => true,
+        ThumbFormat::BranchConditional => true,
+        ThumbFormat::Swi => true,
+        ThumbFormat::Branch => true,
+        ThumbFormat::BranchLongWithLink => true,
+        ThumbFormat::Undefined => true,
+    }
+}
 
 // What the operands of a line fill in, of a kind and the bits b of its mnemonic.
 fn operands_of(
@@ -30,29 +63,33 @@ fn operands_of(
     form: Form,
     pc: u32,
     line: &[u8],
+    regs: Regs,
     one: &[u8],
     two: &[u8],
     three: &[u8],
 ) -> u64
-    requires { ⌜ (now one ≡ after (now line)) × (now two ≡ after (after (now line))) × (now three ≡ after (after (after (now line)))) ⌝ }
+    requires { ⌜ (now one ≡ after (now line)) × (now two ≡ after (after (now line))) × (now three ≡ after (after (after (now line)))) × Named regs (now line) ⌝ }
     ensures { λ r. ⌜ (r ≡ operands fmt b form pc (now (line .entry))) × (r < 2 ^ 20) ⌝ }
 {
+    let first = regs.0;
+    let second = regs.1;
+    let third = regs.2;
     match fmt {
-        ThumbFormat::MoveShiftedReg => shifted(line, one, two, three),
-        ThumbFormat::AddSub => add_sub(line, one, two, three),
-        ThumbFormat::DataProcessImm => with_byte(one, two),
-        ThumbFormat::AluOps => low(one, two),
-        ThumbFormat::HiRegOpOrBranchExchange => high(b, one, two),
-        ThumbFormat::LdrPc => wide(one, three),
-        ThumbFormat::LdrStrRegOffset => three_low(one, two, three),
-        ThumbFormat::LdrStrSHB => three_low(one, two, three),
-        ThumbFormat::LdrStrImmOffset => with_number(b, one, two, three),
-        ThumbFormat::LdrStrHalfWord => with_half(one, two, three),
-        ThumbFormat::LdrStrSp => wide(one, three),
-        ThumbFormat::LoadAddress => address(one, two, three),
+        ThumbFormat::MoveShiftedReg => shifted(line, first, second, three),
+        ThumbFormat::AddSub => add_sub(line, first, second, third, three),
+        ThumbFormat::DataProcessImm => with_byte(first, two),
+        ThumbFormat::AluOps => low(first, second),
+        ThumbFormat::HiRegOpOrBranchExchange => high(b, first, second),
+        ThumbFormat::LdrPc => wide(first, three),
+        ThumbFormat::LdrStrRegOffset => three_low(first, second, third),
+        ThumbFormat::LdrStrSHB => three_low(first, second, third),
+        ThumbFormat::LdrStrImmOffset => with_number(b, first, second, three),
+        ThumbFormat::LdrStrHalfWord => with_half(first, second, three),
+        ThumbFormat::LdrStrSp => wide(first, three),
+        ThumbFormat::LoadAddress => address(first, second, three),
         ThumbFormat::AddSp => sp(form, line, two),
         ThumbFormat::PushPop => stack(one),
-        ThumbFormat::LdmStm => block(form, one, two),
+        ThumbFormat::LdmStm => block(form, first, two),
         ThumbFormat::BranchConditional => offset(pc, one) % 256,
         ThumbFormat::Swi => hexadecimal(one) % 256,
         ThumbFormat::Branch => offset(pc, one) % 2048,
@@ -61,20 +98,22 @@ fn operands_of(
     }
 }
 
-// The candidate of the bits b.
+// The candidate of a row.
 pub fn candidate_of(
     form: Form,
     pc: u32,
-    b: u16,
+    row: Row,
     line: &[u8],
+    regs: Regs,
     one: &[u8],
     two: &[u8],
     three: &[u8],
 ) -> u16
-    requires { ⌜ (now one ≡ after (now line)) × (now two ≡ after (after (now line))) × (now three ≡ after (after (after (now line)))) ⌝ }
-    ensures { λ r. ⌜ r ≡ candidate form pc (now (line .entry)) b ⌝ }
+    requires { ⌜ (now one ≡ after (now line)) × (now two ≡ after (after (now line))) × (now three ≡ after (after (after (now line)))) × Named regs (now line) ⌝ }
+    ensures { λ r. ⌜ r ≡ candidate form pc (now (line .entry)) (row .1) (row .0) ⌝ }
 {
-    let fmt = thumb_format(form, b);
-    let n = operands_of(fmt, b as u64, form, pc, line, one, two, three);
+    let b = row.0;
+    let fmt = row.1;
+    let n = operands_of(fmt, b as u64, form, pc, line, regs, one, two, three);
     ((b as u64 + n) % 0x1_0000) as u16
 }

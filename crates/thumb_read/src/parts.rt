@@ -22,11 +22,14 @@ pub fn as_flag(b: bool) -> u64
     0
 }
 
+// The registers that words 1, 2 and 3 of a line name, or 16.
+pub struct Regs(pub u8, pub u8, pub u8);
+
 // The register that the first word names, or 16.
-pub fn register(l: &[u8]) -> u64
-    ensures { λ r. ⌜ (r ≡ regNamed (word (now (l .entry)))) × (r ≤ 16) ⌝ }
+pub fn register(l: &[u8]) -> u8
+    ensures { λ r. ⌜ r ≡ regNamed (word (now (l .entry))) ⌝ }
 {
-    read_reg(first_word(l)) as u64
+    read_reg(first_word(l)) as u8
 }
 
 // The number that the first word writes in decimal.

@@ -138,6 +138,17 @@ fn thumb_operations(order: &str, list: &[(u16, u32)]) {
     }
 }
 
+/// Lines as they are printed, and damaged.
+const LINES: [(&str, fn(&mut Vec<u8>)); 4] = [
+    ("as printed", |_| ()),
+    ("a byte changed", |line| {
+        let middle = line.len() / 2;
+        line[middle] = b'?';
+    }),
+    ("the last byte missing", |line| _ = line.pop()),
+    ("81 bytes", |line| line.resize(81, b' ')),
+];
+
 /// Measures the read of the lines of some words, beside their print.
 fn reads<W: Copy, R>(
     set: &str,
@@ -146,21 +157,25 @@ fn reads<W: Copy, R>(
     read: fn(u32, u32, &[u8]) -> R,
 ) {
     let mut buffer = [0; 128];
+    let places: Vec<(usize, u32)> = (0..list.len()).map(|i| (i, list[i].1)).collect();
     for (form, name) in [(BENCH, "bench"), (SHEET, "sheet")] {
-        let lines: Vec<Vec<u8>> = list
-            .iter()
-            .map(|&(word, address)| {
-                let length = print(form, word, address, &mut buffer).1;
-                buffer[..length].to_vec()
-            })
-            .collect();
-        let places: Vec<(usize, u32)> = (0..list.len()).map(|i| (i, list[i].1)).collect();
-        operation(
-            &format!("{set} | {name}"),
-            &places,
-            |i, address| _ = black_box(read(form, address, &lines[i])),
-            |i, address| _ = black_box(print(form, list[i].0, address, &mut buffer)),
-        );
+        for (state, damage) in LINES {
+            let lines: Vec<Vec<u8>> = list
+                .iter()
+                .map(|&(word, address)| {
+                    let length = print(form, word, address, &mut buffer).1;
+                    let mut line = buffer[..length].to_vec();
+                    damage(&mut line);
+                    line
+                })
+                .collect();
+            operation(
+                &format!("{set} | {name} | {state}"),
+                &places,
+                |i, address| _ = black_box(read(form, address, &lines[i])),
+                |i, address| _ = black_box(print(form, list[i].0, address, &mut buffer)),
+            );
+        }
     }
 }
 
@@ -204,8 +219,8 @@ fn main() -> io::Result<()> {
     thumb_operations("in order", &thumb);
     thumb_operations("random", &mixed);
 
-    println!("\n| set, order | form | read, ns | print, ns | read / print |");
-    println!("|---|---|---|---|---|");
+    println!("\n| set, order | form | line | read, ns | print, ns | read / print |");
+    println!("|---|---|---|---|---|---|");
     reads("ARM, random", &arm[..ROWS], silk::print_arm, silk::read_arm);
     reads(
         "Thumb, random",

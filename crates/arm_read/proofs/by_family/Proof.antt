@@ -46,7 +46,7 @@ returns-12 c = rw (c .before .match .keys12) (c .swp-candidate .ensures (c .befo
 returns-13 : tie.Need-returns-13
 unfolding undefinedCand
 returns-13 c =
-    let m = missed (c .before .before .before .args .family) 12 (c .before .match .rest) in
+    let m = missed (c .before .before .before .args .family) 0 12 (omega arith) (c .before .match .rest) in
     let e : c .before .before .before .args .family ≡ 12 = omega (m, c .before .before .before .pre .0, arith) in
     rw e (c .undefined-candidate .ensures)
 

@@ -5,7 +5,8 @@ use lib.Dec.{leb, ltb}
 use mathlib.Core.Bool.{_&&_}
 use mathlib.Core.List.{[]}
 use Rattle.arm_lowest.specs.Heads.{stemNames, stems}
-use Rattle.arm_read.proofs.Stems.{codes, none-found}
+use Rattle.arm_read.proofs.Stems.{codes}
+use Rattle.common.proofs.Lists.{none-found}
 use Rattle.common.specs.Lists.{first}
 use Rattle.text.specs.Word.{packed}
 use Rattle.arm_read.proofs.heads.four_head.Statement.{statement}

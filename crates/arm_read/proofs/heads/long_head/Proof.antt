@@ -4,7 +4,8 @@ use borrow.Author.Tests.{le-leb}
 use lib.Dec.{leb}
 use mathlib.Core.List.{[]}
 use Rattle.arm_lowest.specs.Heads.{stemNames, stems}
-use Rattle.arm_read.proofs.Stems.{codes, none-found}
+use Rattle.arm_read.proofs.Stems.{codes}
+use Rattle.common.proofs.Lists.{none-found}
 use Rattle.common.specs.Lists.{first}
 use Rattle.text.specs.Word.{packed}
 use Rattle.arm_read.proofs.heads.long_head.Statement.{statement}

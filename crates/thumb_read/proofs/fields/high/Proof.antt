@@ -5,10 +5,10 @@ use Rattle.thumb_read.proofs.fields.high.Statement.{statement}
 use Rattle.thumb_read.proofs.fields.high.Tie as tie
 
 returns : tie.Need-returns
-returns c = (rw (c .before .register .ensures .0, eq-eqb _ _ (c .if1 .taken)), search needs)
+returns c = (rw (eq-eqb _ _ (c .if1 .taken)), search needs)
 
 returns-2 : tie.Need-returns-2
-returns-2 c = (rw (c .register2 .ensures .0, c .before .before .register .ensures .0, ne-eqb _ _ (c .before .if1 .left)), search needs)
+returns-2 c = (rw (ne-eqb _ _ (c .if1 .left)), search needs)
 
 pub high-spec : {M : Type 1} → statement M
-high-spec = tie.close (tie.spec (λ c κs. search needs) (λ c. search needs) returns (λ c. search needs) (λ c κs. search needs) (λ c. search needs) (λ c. search needs) (λ c. search needs) returns-2)
+high-spec = tie.close (tie.spec (λ c. search needs) returns (λ c. search needs) (λ c. search needs) (λ c. search needs) (λ c. search needs) returns-2)

@@ -1,12 +1,12 @@
 -- `thumb_read::operands::candidate_of` meets its contract. Assumes nothing.
-use borrow.Author.Needs.{needs}
 use Rattle.thumb_lowest.specs.Candidate.{candidate}
+use borrow.Author.Needs.{needs}
 use Rattle.thumb_read.proofs.operands.candidate_of.Statement.{statement}
 use Rattle.thumb_read.proofs.operands.candidate_of.Tie as tie
 
 returns : tie.Need-returns
 unfolding candidate
-returns c = rw (c .operands-of .ensures .0, c .before .thumb-format .ensures)
+returns c = rw (c .operands-of .ensures .0)
 
 pub candidate-of-spec : {M : Type 1} → statement M
-candidate-of-spec = tie.close (tie.spec (λ c κs. search needs) (λ c κs. search needs) (λ c. search needs) (λ c. search needs) returns)
+candidate-of-spec = tie.close (tie.spec (λ c. search needs) (λ c κs. search needs) (λ c. search needs) (λ c. search needs) (λ c. search needs) returns)

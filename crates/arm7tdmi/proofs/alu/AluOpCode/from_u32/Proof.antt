@@ -10,7 +10,7 @@ use Rattle.arm7tdmi.proofs.alu.AluOpCode.from_u32.Tie as tie
 rest : tie.Need-returns-16
 unfolding aluOpCode
 rest c =
-    let m = missed (c .before .args .n % 16) 15 (c .match .rest) in
+    let m = missed (c .before .args .n % 16) 0 15 (omega arith) (c .match .rest) in
     let e : c .before .args .n % 16 ≡ 15 = omega (m, arith) in
     rw e
 

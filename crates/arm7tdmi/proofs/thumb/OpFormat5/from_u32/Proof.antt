@@ -10,7 +10,7 @@ use Rattle.arm7tdmi.proofs.thumb.OpFormat5.from_u32.Tie as tie
 rest : tie.Need-returns-4
 unfolding opFormat5
 rest c =
-    let m = missed (c .before .args .n % 4) 3 (c .match .rest) in
+    let m = missed (c .before .args .n % 4) 0 3 (omega arith) (c .match .rest) in
     let e : c .before .args .n % 4 ≡ 3 = omega (m, arith) in
     rw e
 

@@ -1,0 +1,43 @@
+-- `thumb_read::rows::middle_row` meets its contract: each arm is computed. Assumes nothing.
+use mathlib.Core.Path.{_≡_, refl}
+use native.Mathlib.Omega.{arith}
+use Rattle.common.proofs.Tests.{missed}
+use Rattle.common.specs.Lists.{first}
+use Rattle.text.specs.Word.{packed}
+use Rattle.thumb_lowest.specs.Candidate.{rows}
+use Rattle.thumb_read.proofs.rows.middle_row.Statement.{statement}
+use Rattle.thumb_read.proofs.rows.middle_row.Tie as tie
+
+returns-20 : tie.Need-returns-20
+unfolding rows packed first
+returns-20 c =
+    let m = missed (c .before .args .i) 27 19 (c .before .pre .0) (c .match .rest) in
+    let h = c .before .pre .1 in
+    let e : c .before .args .i ≡ 46 = omega arith in
+    rw e (refl, refl, refl)
+
+pub middle-row-spec : {M : Type 1} → statement M
+unfolding rows packed first
+middle-row-spec =
+    tie.close
+    (tie.spec
+    (λ c. rw (c .match .keys1) (refl, refl, refl))
+    (λ c. rw (c .match .keys2) (refl, refl, refl))
+    (λ c. rw (c .match .keys3) (refl, refl, refl))
+    (λ c. rw (c .match .keys4) (refl, refl, refl))
+    (λ c. rw (c .match .keys5) (refl, refl, refl))
+    (λ c. rw (c .match .keys6) (refl, refl, refl))
+    (λ c. rw (c .match .keys7) (refl, refl, refl))
+    (λ c. rw (c .match .keys8) (refl, refl, refl))
+    (λ c. rw (c .match .keys9) (refl, refl, refl))
+    (λ c. rw (c .match .keys10) (refl, refl, refl))
+    (λ c. rw (c .match .keys11) (refl, refl, refl))
+    (λ c. rw (c .match .keys12) (refl, refl, refl))
+    (λ c. rw (c .match .keys13) (refl, refl, refl))
+    (λ c. rw (c .match .keys14) (refl, refl, refl))
+    (λ c. rw (c .match .keys15) (refl, refl, refl))
+    (λ c. rw (c .match .keys16) (refl, refl, refl))
+    (λ c. rw (c .match .keys17) (refl, refl, refl))
+    (λ c. rw (c .match .keys18) (refl, refl, refl))
+    (λ c. rw (c .match .keys19) (refl, refl, refl))
+    returns-20)
