@@ -1,5 +1,5 @@
 -- The kinds of words: the first row of a list of mask, value and kind that a word meets. Assumes nothing.
-use mathlib.Core.Bool.{cond}
+use mathlib.Core.Bool.{Bool, cond}
 use mathlib.Core.List.{List, [], _∷_}
 use Prim.Native.Nat.{ℕ}
 use lib.Bits.{bitAnd}
@@ -51,8 +51,15 @@ armRows form =
     []
 
 -- row i, and none past the last
+abbrev pub armNone : ArmRow
+armNone = armRow 0 0 A.Undefined
+
 abbrev pub armRowAt : Form → ℕ → ArmRow
-armRowAt form i = getD (armRows form) i (armRow 0 0 A.Undefined)
+armRowAt form i = getD (armRows form) i armNone
+
+-- whether a word meets a row
+abbrev pub armMet : ℕ → ArmRow → Bool
+armMet w r = eqb (bitAnd w (r .0)) (r .1)
 
 abbrev pub armFirst : List ArmRow → ℕ → ArmFormat
 armFirst = firstMatch (λ (r : ArmRow). r .0) (λ (r : ArmRow). r .1) (λ (r : ArmRow). r .2) A.Undefined
@@ -112,8 +119,14 @@ thumbRows form =
     thumbRow 0xf000 0xf000 H.BranchLongWithLink ∷
     []
 
+abbrev pub thumbNone : ThumbRow
+thumbNone = thumbRow 0 0 H.Undefined
+
 abbrev pub thumbRowAt : Form → ℕ → ThumbRow
-thumbRowAt form i = getD (thumbRows form) i (thumbRow 0 0 H.Undefined)
+thumbRowAt form i = getD (thumbRows form) i thumbNone
+
+abbrev pub thumbMet : ℕ → ThumbRow → Bool
+thumbMet w r = eqb (bitAnd w (r .0)) (r .1)
 
 abbrev pub thumbFirst : List ThumbRow → ℕ → ThumbFormat
 thumbFirst = firstMatch (λ (r : ThumbRow). r .0) (λ (r : ThumbRow). r .1) (λ (r : ThumbRow). r .2) H.Undefined

@@ -2,9 +2,11 @@
 ghost use mathlib.Core.Path.{_≡_};
 ghost use mathlib.Core.Bool.{cond as boolCond};
 ghost use Prim.Native.Nat.{_≤_, _<_};
+ghost use lib.ListN.{getD};
+ghost use Rattle.common.specs.Lists.{first};
 ghost use Rattle.text.specs.Wrote.{Wrote};
 ghost use Rattle.arm7tdmi.specs.Names.{condText, condNamed};
-ghost use Rattle.arm7tdmi.specs.Kinds.{armRows, armFirst, armFormat, armNumber};
+ghost use Rattle.arm7tdmi.specs.Kinds.{armMet, armNone, armRows, armFirst, armFormat, armNumber};
 ghost use Rattle.common.specs.Bits.{bit, bitRange};
 ghost use Rattle.arm7tdmi.specs.Alu.{aluOpCode};
 ghost use Rattle.arm7tdmi.specs.Arm.{armCond, armCondNumber, halfwordType, branchOffset, branchTarget, pcRelative, bsOp, shiftRegBy, operand2, addedOf, signedOffset, ldrStrOffset, ldrStrHsImmOffset, ldrStrHsRegOffset};
@@ -216,19 +218,42 @@ fn arm_rows(form: Form) -> [ArmRow; 15]
     rows
 }
 
-// The kind of the first row whose mask and value the word meets.
-fn arm_first(rows: [ArmRow; 15], raw: u32) -> ArmFormat
-    ensures { λ r. ⌜ r ≡ armFirst rows raw ⌝ }
+// Where the first row stands whose mask and value the word meets, or 15.
+fn arm_place(rows: [ArmRow; 15], raw: u32) -> usize
+    ensures { λ r. ⌜ r ≡ first (armMet raw) rows ⌝ }
 {
     let mut i: usize = 0;
     while i < 15 {
         let row = rows[i];
         if raw & row.0 == row.1 {
-            return row.2;
+            return i;
         }
         i += 1;
     }
-    ArmFormat::Undefined
+    i
+}
+
+// The kind of the row at a place. By a walk and not by an index, so that no row has to be in memory.
+fn arm_kind(rows: [ArmRow; 15], place: usize) -> ArmFormat
+    ensures { λ r. ⌜ r ≡ getD rows place armNone .2 ⌝ }
+{
+    let mut kind = ArmFormat::Undefined;
+    let mut i: usize = 0;
+    while i < 15 {
+        let row = rows[i];
+        if i == place {
+            kind = row.2;
+        }
+        i += 1;
+    }
+    kind
+}
+
+// The kind of the first row whose mask and value the word meets.
+fn arm_first(rows: [ArmRow; 15], raw: u32) -> ArmFormat
+    ensures { λ r. ⌜ r ≡ armFirst rows raw ⌝ }
+{
+    arm_kind(rows, arm_place(rows, raw))
 }
 
 // The kind of a word.

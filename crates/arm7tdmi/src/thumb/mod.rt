@@ -1,10 +1,12 @@
 // Thumb words.
 ghost use mathlib.Core.Path.{_≡_};
 ghost use Prim.Native.Nat.{_<_};
+ghost use lib.ListN.{getD};
+ghost use Rattle.common.specs.Lists.{first};
 ghost use Rattle.common.specs.Bits.{bit, bitRange};
 ghost use Rattle.arm7tdmi.specs.Alu.{barrelShiftOpCode};
 ghost use Rattle.arm7tdmi.specs.Arm.{armCond};
-ghost use Rattle.arm7tdmi.specs.Kinds.{thumbRows, thumbFirst, thumbFormat, thumbNumber};
+ghost use Rattle.arm7tdmi.specs.Kinds.{thumbMet, thumbNone, thumbRows, thumbFirst, thumbFormat, thumbNumber};
 ghost use Rattle.arm7tdmi.specs.Thumb.{opFormat3, opFormat5, thumbAluOp, bcondOffset, branchOffset11, callOffset, bcondTarget, branchTarget, pcLoadAddress, callHalf, word8, sword7};
 use crate::Form;
 use crate::alu::BarrelShiftOpCode;
@@ -108,19 +110,42 @@ fn thumb_rows(form: Form) -> [ThumbRow; 20]
     rows
 }
 
-// The kind of the first row whose mask and value the word meets.
-fn thumb_first(rows: [ThumbRow; 20], raw: u16) -> ThumbFormat
-    ensures { λ r. ⌜ r ≡ thumbFirst rows raw ⌝ }
+// Where the first row stands whose mask and value the word meets, or 20.
+fn thumb_place(rows: [ThumbRow; 20], raw: u16) -> usize
+    ensures { λ r. ⌜ r ≡ first (thumbMet raw) rows ⌝ }
 {
     let mut i: usize = 0;
     while i < 20 {
         let row = rows[i];
         if raw & row.0 == row.1 {
-            return row.2;
+            return i;
         }
         i += 1;
     }
-    ThumbFormat::Undefined
+    i
+}
+
+// The kind of the row at a place. By a walk and not by an index, so that no row has to be in memory.
+fn thumb_kind(rows: [ThumbRow; 20], place: usize) -> ThumbFormat
+    ensures { λ r. ⌜ r ≡ getD rows place thumbNone .2 ⌝ }
+{
+    let mut kind = ThumbFormat::Undefined;
+    let mut i: usize = 0;
+    while i < 20 {
+        let row = rows[i];
+        if i == place {
+            kind = row.2;
+        }
+        i += 1;
+    }
+    kind
+}
+
+// The kind of the first row whose mask and value the word meets.
+fn thumb_first(rows: [ThumbRow; 20], raw: u16) -> ThumbFormat
+    ensures { λ r. ⌜ r ≡ thumbFirst rows raw ⌝ }
+{
+    thumb_kind(rows, thumb_place(rows, raw))
 }
 
 // The kind of a word.
