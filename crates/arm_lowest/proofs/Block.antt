@@ -5,7 +5,7 @@ use mathlib.Core.Bool.{true}
 use mathlib.Core.List.{List, [], _++_, _∷_, append-assoc}
 use mathlib.Core.Path.{_∙_, _≡_, refl}
 use native.Mathlib.Omega.{arith}
-use Rattle.arm7tdmi.proofs.Names.{reg-back}
+use Rattle.arm7tdmi.proofs.Names.{reg-back, reg-wordy}
 use Rattle.arm7tdmi.specs.Names.{condText, regString}
 use Rattle.arm7tdmi.specs.Pieces.{condAt, either, ifSet, regAt, registers, setBits}
 use Rattle.arm7tdmi.specs.declared.Form.{Form}
@@ -14,13 +14,14 @@ use Rattle.arm_disass.specs.Print.{lineOf}
 use Rattle.arm_lowest.proofs.Found.{Law, exact, fifteen, pieces-read, printed-line}
 use Rattle.arm_lowest.proofs.Heads.{Mnemonic, ldm-reads, ldmBits, ldmStem, pick}
 use Rattle.arm_lowest.proofs.Parts.{flag-back}
-use Rattle.arm_lowest.proofs.RegisterList.{behindReg, bits-below, bits-few, bits-sum, list-back, list-good, list-has, list-spelled}
-use Rattle.arm_lowest.specs.CandidateTransfer.{ldmCand, listIn}
+use Rattle.reading.proofs.RegisterList.{behindWord, bits-below, bits-few, bits-sum, list-back, list-first, list-good, list-has, list-spelled}
+use Rattle.arm_lowest.specs.CandidateTransfer.{ldmCand}
+use Rattle.reading.specs.Parts.{listIn}
 use Rattle.arm_words.proofs.Scheme.{Words}
 use Rattle.arm_words.proofs.Transfer.{LdmFields, ldm-read, ldm-words, ldmWord}
 use Rattle.common.proofs.Tests.{by-test}
 use Rattle.common.specs.Bits.{bitRange}
-use Rattle.reading.proofs.Pieces.{Pieces, firstOf, from-nth, good, has-gaps, piece, spell, word-nth}
+use Rattle.reading.proofs.Pieces.{Pieces, from-nth, good, has-gaps, piece, spell, word-nth}
 use Rattle.text.proofs.Word.{gap}
 use Rattle.text.specs.Text.{text}
 use Rattle.text.specs.Word.{fromWord, has, isWord, word}
@@ -38,7 +39,7 @@ module _ {c p u s w l rn n : ℕ} (f : LdmFields c p u s w l rn n) (m : Mnemonic
   closes = text "}" ++ pick s (text "^") []
 
   abbrev ps : Pieces
-  ps = piece (ldmStem p u l ++ condText c) (text "\t") (behindReg rn opens (setBits raw 16) closes)
+  ps = piece (ldmStem p u l ++ condText c) (text "\t") (behindWord (regString rn) opens (setBits raw 16) closes)
 
   ldm-spelled : fmtLdmStm raw ≡ spell ps
   unfolding fmtLdmStm either ifSet regAt condAt registers
@@ -56,34 +57,30 @@ module _ {c p u s w l rn n : ℕ} (f : LdmFields c p u s w l rn n) (m : Mnemonic
 
   ps-good : good ps ≡ true
   unfolding isWord
-  ps-good = rw (m .one-word, list-good closes closes-gap rn opens (setBits raw 16) (f .hrn) opens-gap (bits-below raw 16 (omega arith)))
+  ps-good = rw (m .one-word, list-good closes closes-gap (regString rn) opens (setBits raw 16) (reg-wordy rn (f .hrn)) opens-gap (bits-below raw 16 (omega arith)))
 
   -- ---- its marks
   bang : has 33 (spell ps) ≡ eqb w 1
   unfolding has isWord
   bang =
-      has-gaps 33 ps refl ps-good ∙ list-has closes closes-gap 33 rn opens (setBits raw 16) refl
+      has-gaps 33 ps refl ps-good ∙ list-has closes closes-gap 33 (regString rn) opens (setBits raw 16) refl
       ∙ by-test (eqb w 1) (λ e. rw e) (λ e. by-test (eqb s 1) (λ g. rw (e, g)) (λ g. rw (e, g)))
 
   hat : has 94 (spell ps) ≡ eqb s 1
   unfolding has isWord
   hat =
-      has-gaps 94 ps refl ps-good ∙ list-has closes closes-gap 94 rn opens (setBits raw 16) refl
+      has-gaps 94 ps refl ps-good ∙ list-has closes closes-gap 94 (regString rn) opens (setBits raw 16) refl
       ∙ by-test (eqb w 1) (λ e. by-test (eqb s 1) (λ g. rw (e, g)) (λ g. rw (e, g))) (λ e. by-test (eqb s 1) (λ g. rw (e, g)) (λ g. rw (e, g)))
 
   base : word (fromWord 1 (spell ps)) ≡ regString rn
-  base = word-nth 1 ps ps-good ∙ first-of (setBits raw 16)
-    where
-      first-of : (xs : List ℕ) → firstOf (behindReg rn opens xs closes) ≡ regString rn
-      first-of [] = refl
-      first-of (x ∷ xs) = refl
+  base = word-nth 1 ps ps-good ∙ list-first (regString rn) opens (setBits raw 16) closes
 
   names : listIn 16 (fromWord 2 (spell ps)) ≡ n
   names =
       let b = bits-sum raw 16 in
       let r : bitRange raw 0 16 ≡ n = ldm-read f .7 in
       rw (from-nth 2 ps ps-good .0)
-      (list-back closes closes-gap rn opens (setBits raw 16) (bits-few raw 16) (bits-below raw 16 (omega arith)) ∙ b ∙ omega arith)
+      (list-back closes closes-gap 16 (regString rn) opens (setBits raw 16) (bits-few raw 16) (bits-below raw 16 (omega arith)) ∙ b ∙ omega arith)
 
   ldm-back : (form : Form) (pc : ℕ) → ldmCand form pc (ldmBits p u l) c (spell ps) ≡ raw
   unfolding ldmCand

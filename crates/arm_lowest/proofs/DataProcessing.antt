@@ -20,7 +20,7 @@ use Rattle.arm_lowest.proofs.Operand.{lead, op-back, op-good, op-least,
 use Rattle.arm_lowest.proofs.Parts.{regroup}
 use Rattle.arm_lowest.specs.CandidateDataProcessing.{dpCand, dpFrom, isMrs, isThree, operandIn, rdIn, rnIn, showsRd}
 use Rattle.arm_lowest.specs.CandidateOperand.{operandOf}
-use Rattle.arm_lowest.specs.CandidateParts.{regIn}
+use Rattle.reading.specs.Parts.{regIn}
 use Rattle.arm_words.proofs.DataProcessing.{DpFields, dp-least, dp-read, dp-test, dp-words, dpMove, dpRd, dpRn, dpS, dpTest, dpWord, mrsShape, same-test}
 use Rattle.arm_words.proofs.Scheme.{Words, bench, shown-low}
 use Rattle.common.proofs.Tests.{and-left, at, by-test}

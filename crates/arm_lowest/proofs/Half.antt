@@ -20,7 +20,7 @@ use Rattle.arm_lowest.proofs.Heads.{half-reads, halfBits, halfStem}
 use Rattle.arm_lowest.proofs.Offset.{number-added, number-same, number-says, number-size, number-spelled, offset, offset-seen, offsetLead, register-added, register-named, register-says, register-spelled, sep, transfer-base, transfer-good, transferPieces}
 use Rattle.arm_lowest.proofs.Operand.{shift-alone, shiftPieces}
 use Rattle.arm_lowest.proofs.Parts.{flag-back}
-use Rattle.arm_lowest.specs.CandidateParts.{flag}
+use Rattle.reading.specs.Parts.{flag}
 use Rattle.arm_lowest.specs.CandidateTransfer.{asFlags, baseIn, halfCand, halfOffset}
 use Rattle.arm_words.proofs.Halfword.{HalfFields, flagsShape, half-least, half-read, half-words, halfKind, halfU, halfW, halfWord}
 use Rattle.arm_words.proofs.Scheme.{Words, shown-low}

@@ -7,7 +7,6 @@ pub mod Branch
 pub mod Multiply
 pub mod Status
 pub mod DataProcessing
-pub mod RegisterList
 pub mod Block
 pub mod Offset
 pub mod Single

@@ -19,7 +19,7 @@ use Rattle.arm_lowest.proofs.Heads.{pick}
 use Rattle.arm_lowest.proofs.Operand.{shift-first, shift-good, shiftPieces, shifted-back}
 use Rattle.arm_lowest.proofs.Parts.{prefixed-wordy}
 use Rattle.arm_lowest.specs.CandidateOperand.{isNumber, shiftedOf}
-use Rattle.arm_lowest.specs.CandidateParts.{flag, regIn}
+use Rattle.reading.specs.Parts.{flag, regIn}
 use Rattle.arm_lowest.specs.CandidateTransfer.{addedIn, baseIn, indexedIn, isAdded, registerAdded, sizeIn, sizeOf}
 use Rattle.arm_words.proofs.Operand.{shiftLeast}
 use Rattle.arm_words.proofs.Scheme.{bench}

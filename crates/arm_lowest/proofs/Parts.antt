@@ -7,7 +7,7 @@ use mathlib.Core.Bool.{true}
 use mathlib.Core.List.{List, [], _++_, _∷_, append-assoc}
 use mathlib.Core.Path.{_∙_, _≡_, refl, sym}
 use native.Mathlib.Omega.{arith}
-use Rattle.arm_lowest.specs.CandidateParts.{flag}
+use Rattle.reading.specs.Parts.{flag}
 use Rattle.common.proofs.Tests.{by-test}
 use Rattle.text.proofs.Digits.{hex-back}
 use Rattle.text.proofs.Word.{hex-wordy, wordy, wordy-all}

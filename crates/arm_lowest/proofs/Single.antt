@@ -19,7 +19,7 @@ use Rattle.arm_lowest.proofs.Heads.{ldr-reads, ldrBits, ldrStem}
 use Rattle.arm_lowest.proofs.Offset.{number-added, number-same, number-says, number-size, number-spelled, offset, offset-seen, offsetLead, register-added, register-says, register-shifted, register-spelled, sep, shownU, transfer-base, transfer-good, transferPieces}
 use Rattle.arm_lowest.proofs.Operand.{shift-same, shift-spelled}
 use Rattle.arm_lowest.proofs.Parts.{flag-back}
-use Rattle.arm_lowest.specs.CandidateParts.{flag}
+use Rattle.reading.specs.Parts.{flag}
 use Rattle.arm_lowest.specs.CandidateTransfer.{ldrCand, ldrOffset}
 use Rattle.arm_words.proofs.Operand.{shift-least, shiftLeast}
 use Rattle.arm_words.proofs.Scheme.{Least, Words}

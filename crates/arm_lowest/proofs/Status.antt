@@ -21,7 +21,7 @@ use Rattle.arm_lowest.proofs.Operand.{lead, number-back, op-least, op-s
 use Rattle.arm_lowest.proofs.Parts.{prefixed-wordy, regroup}
 use Rattle.arm_lowest.proofs.Rotation.{immediate-least, immediateAt}
 use Rattle.arm_lowest.specs.CandidateOperand.{operandOf}
-use Rattle.arm_lowest.specs.CandidateParts.{flag}
+use Rattle.reading.specs.Parts.{flag}
 use Rattle.arm_lowest.specs.CandidateSimple.{mrsCand, msrCand}
 use Rattle.arm_words.proofs.Operand.{operand-read, shift-least}
 use Rattle.arm_words.proofs.Scheme.{Words}

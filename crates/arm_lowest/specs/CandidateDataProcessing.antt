@@ -6,7 +6,8 @@ use mathlib.Core.List.{List}
 use Rattle.arm7tdmi.specs.declared.Form.the-variants.{Bench, Sheet}
 use Rattle.arm7tdmi.specs.declared.Form.{Form}
 use Rattle.arm_lowest.specs.CandidateOperand.{operandOf}
-use Rattle.arm_lowest.specs.CandidateParts.{Candidate, flag, regIn}
+use Rattle.arm_lowest.specs.CandidateParts.{Candidate}
+use Rattle.reading.specs.Parts.{flag, regIn}
 use Rattle.text.specs.Word.{fromWord}
 
 -- tst, teq, cmp and cmn; mov and mvn; and the others, with three operands

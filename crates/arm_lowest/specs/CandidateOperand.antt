@@ -6,7 +6,7 @@ use mathlib.Core.Bool.{Bool, cond}
 use mathlib.Core.List.{List, [], _∷_}
 use Rattle.arm7tdmi.specs.Alu.{rotateRight}
 use Rattle.arm7tdmi.specs.Names.{regNamed}
-use Rattle.arm_lowest.specs.CandidateParts.{regIn}
+use Rattle.reading.specs.Parts.{regIn}
 use Rattle.common.specs.Lists.{place}
 use Rattle.common.specs.Lowest.{lowest}
 use Rattle.text.specs.Digits.{value}

@@ -7,7 +7,8 @@ use Rattle.arm7tdmi.specs.Kinds.{undefinedBits}
 use Rattle.arm7tdmi.specs.declared.Form.the-variants.{Bench, Sheet}
 use Rattle.arm7tdmi.specs.declared.Form.{Form}
 use Rattle.arm_lowest.specs.CandidateOperand.{operandOf}
-use Rattle.arm_lowest.specs.CandidateParts.{Candidate, flag, hexIn, regIn}
+use Rattle.arm_lowest.specs.CandidateParts.{Candidate}
+use Rattle.reading.specs.Parts.{flag, hexIn, regIn}
 use Rattle.common.specs.Bits.{bit}
 use Rattle.text.specs.Word.{behind, fromWord, has}
 

@@ -1,26 +1,21 @@
 -- The candidates of transfers: the word that a line names, from its words and marks; some number on anything else. The reader's plan; nothing of the promise rests on it. Assumes nothing.
-use Prim.Native.Nat.{_%_, _*_, _+_, _/_, _^_, suc, zero, ℕ}
+use Prim.Native.Nat.{_%_, _*_, _+_, _/_, _^_, ℕ}
 use lib.Dec.{eqb, ltb}
-use lib.ListN.{getD, length}
+use lib.ListN.{getD}
 use mathlib.Core.Bool.{Bool, cond, false, not}
 use mathlib.Core.List.{List}
-use Rattle.arm7tdmi.specs.Names.{regNamed}
 use Rattle.arm7tdmi.specs.declared.Form.the-variants.{Bench, Sheet}
 use Rattle.arm7tdmi.specs.declared.Form.{Form}
 use Rattle.arm_disass.specs.Line.{magnitude}
 use Rattle.arm_lowest.specs.CandidateOperand.{isNumber, shiftedOf}
-use Rattle.arm_lowest.specs.CandidateParts.{Candidate, flag, regIn}
+use Rattle.arm_lowest.specs.CandidateParts.{Candidate}
+use Rattle.reading.specs.Parts.{flag, listIn, regIn}
 use Rattle.common.specs.Bits.{bitRange}
 use Rattle.text.specs.Digits.{value}
-use Rattle.text.specs.Word.{after, behind, fromWord, has, word}
+use Rattle.text.specs.Word.{behind, fromWord, has, word}
 
 -- ---- ldm and stm
--- a register list: "read as one name and then the rest, at most sixteen deep"
-unfoldable pub listIn : ℕ → List ℕ → ℕ
-listIn zero l = 0
-listIn (suc k) l = cond (eqb (length (word l)) 0) 0 (2 ^ regNamed (word l) + listIn k (after l))
-
--- `^` and `!` stand nowhere else in the line
+-- "at most sixteen deep"; `^` and `!` stand nowhere else in the line
 unfoldable pub ldmCand : Candidate
 ldmCand form pc b c l = c * 2 ^ 28 + 2 ^ 27 + b + flag (has 94 l) * 2 ^ 22 + flag (has 33 l) * 2 ^ 21 + regIn 1 l * 2 ^ 16 + listIn 16 (fromWord 2 l)
 

@@ -1,4 +1,3 @@
 pub mod Stems
-pub mod RegisterList
 pub mod Dispatch
 pub mod Lines

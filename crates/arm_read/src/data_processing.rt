@@ -5,7 +5,7 @@ ghost use Prim.Native.Nat.{ℕ, _≤_, _<_, _^_};
 ghost use Rattle.arm7tdmi.specs.Names.{regNamed};
 ghost use Rattle.arm_lowest.specs.CandidateDataProcessing.{isTest, isMove, isThree, showsRd, isMrs, dpFrom, dpCand};
 ghost use Rattle.arm_lowest.specs.CandidateOperand.{operandOf};
-ghost use Rattle.arm_lowest.specs.CandidateParts.{flag};
+ghost use Rattle.reading.specs.Parts.{flag};
 ghost use Rattle.text.specs.Word.{word, after};
 use crate::operand::operand;
 use crate::parts::register;

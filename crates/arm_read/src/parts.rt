@@ -1,26 +1,14 @@
 // What the words of a line name.
 ghost use mathlib.Core.Path.{_≡_};
 ghost use Prim.Native.Nat.{_≤_, _<_, _^_};
-ghost use lib.ListN.{drop, getD};
+ghost use lib.ListN.{getD};
 ghost use Rattle.arm7tdmi.specs.Names.{regNamed};
 ghost use Rattle.arm_lowest.specs.CandidateOperand.{isNumber};
-ghost use Rattle.arm_lowest.specs.CandidateParts.{flag};
 ghost use Rattle.text.specs.Digits.{value};
 ghost use Rattle.text.specs.Word.{word};
 use arm7tdmi::read_reg;
 use text::read::first_word;
 use text::read::read_dec;
-use text::read::read_hex;
-
-// A flag as a number.
-pub fn as_flag(b: bool) -> u64
-    ensures { λ r. ⌜ (r ≡ flag b) × (r ≤ 1) ⌝ }
-{
-    if b {
-        return 1;
-    }
-    0
-}
 
 // A byte of a text, or 0 past its end.
 pub fn byte_at(s: &[u8], i: usize) -> u8
@@ -51,15 +39,4 @@ pub fn decimal(w: &[u8]) -> u64
     ensures { λ r. ⌜ (r ≡ value 10 (now (w .entry))) × (r < 2 ^ 32) ⌝ }
 {
     read_dec(w) as u64
-}
-
-// The number that the first word writes behind `0x`.
-pub fn hexadecimal(l: &[u8]) -> u64
-    ensures { λ r. ⌜ (r ≡ value 16 (drop 2 (word (now (l .entry))))) × (r < 2 ^ 32) ⌝ }
-{
-    let w = first_word(l);
-    if w.len() < 2 {
-        return 0;
-    }
-    read_hex(&w[2..]) as u64
 }

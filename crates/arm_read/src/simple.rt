@@ -10,11 +10,11 @@ ghost use Rattle.arm_lowest.specs.CandidateSimple.{fieldOf, branchCand, condSho
 ghost use Rattle.common.specs.Bits.{bit};
 ghost use Rattle.text.specs.Word.{after, has, word};
 use crate::operand::operand;
-use crate::parts::as_flag;
 use crate::parts::byte_at;
-use crate::parts::hexadecimal;
 use crate::parts::register;
 use arm7tdmi::Form;
+use reading::parts::as_flag;
+use reading::parts::hexadecimal;
 use text::read::behind_word;
 use text::read::contains;
 use text::read::next_word;

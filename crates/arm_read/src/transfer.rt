@@ -1,46 +1,23 @@
 // Transfers.
 ghost use mathlib.Core.Path.{_≡_};
-ghost use Prim.Native.Nat.{ℕ, _≤_, _<_, _^_, _*_};
+ghost use Prim.Native.Nat.{ℕ, _≤_, _<_, _^_};
 ghost use lib.Dec.{eqb};
 ghost use lib.ListN.{getD};
 ghost use Rattle.arm7tdmi.specs.declared.Form.{Form};
-ghost use Rattle.arm_lowest.specs.CandidateTransfer.{listIn, ldmCand, baseIn, isAdded, sizeOf, ldrOffset, ldrCand, halfOffset, halfCand};
+ghost use Rattle.arm_lowest.specs.CandidateTransfer.{ldmCand, baseIn, isAdded, sizeOf, ldrOffset, ldrCand, halfOffset, halfCand};
 ghost use Rattle.text.specs.Word.{after, behind};
 use crate::operand::shifted;
-use crate::parts::as_flag;
 use crate::parts::byte_at;
 use crate::parts::decimal;
 use crate::parts::is_number;
 use crate::parts::register;
 use arm7tdmi::Form;
-use arm7tdmi::read_reg;
+use reading::parts::as_flag;
+use reading::parts::register_list;
 use text::read::behind_word;
 use text::read::contains;
 use text::read::first_word;
 use text::read::next_word;
-
-// The bit of a register.
-fn list_bit(reg: u32) -> u64
-    requires { ⌜ reg ≤ 16 ⌝ }
-    ensures { λ r. ⌜ (r ≡ 2 ^ reg) × (r ≤ 2 ^ 16) ⌝ }
-{
-    1u64 << reg
-}
-
-// A register list: one name, and then the rest, of at most `left` names.
-fn register_list(left: u64, l: &[u8]) -> u64
-    requires { ⌜ left ≤ 16 ⌝ }
-    ensures { λ r. ⌜ (r ≡ listIn left (now (l .entry))) × (r ≤ left * 2 ^ 16) ⌝ }
-{
-    if left == 0 {
-        return 0;
-    }
-    let name = first_word(l);
-    if name.len() == 0 {
-        return 0;
-    }
-    list_bit(read_reg(name)) + register_list(left - 1, next_word(l))
-}
 
 // ldm and stm. `^` and `!` stand nowhere else in the line.
 pub fn ldm_candidate(b: u64, c: u64, line: &[u8]) -> u64

@@ -1,3 +1,4 @@
-pub mod Pieces
-pub mod Several
 pub mod Demand
+pub mod Pieces
+pub mod RegisterList
+pub mod Several

@@ -1,6 +1,5 @@
 pub mod Found
 pub mod Parts
-pub mod RegisterList
 pub mod Low
 pub mod Wide
 pub mod Branches

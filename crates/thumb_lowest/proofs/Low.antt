@@ -28,7 +28,7 @@ use Rattle.thumb_disass.specs.Print.{lineOf}
 use Rattle.thumb_lowest.proofs.Found.{Law, Mnemonic, Words, exact, pick, rows-are, rows-are₂, whole-found}
 use Rattle.thumb_lowest.proofs.Parts.{prefixed-back, prefixed-wordy, regroup}
 use Rattle.thumb_lowest.specs.Candidate.{lowIn, operands, rows, shiftIn, thirdIn, transferUnit, suits}
-use Rattle.thumb_lowest.specs.CandidateParts.{flag}
+use Rattle.reading.specs.Parts.{flag}
 use Rattle.thumb_words.proofs.Laws.{parts, thumb-read, thumb-words}
 use Rattle.thumb_words.proofs.Parts.{Fits}
 use Rattle.thumb_words.proofs.Words.{moveShiftedRegWord}

@@ -12,7 +12,7 @@ use Rattle.text.proofs.Digits.{hex-back}
 use Rattle.text.proofs.Word.{hex-wordy, wordy, wordy-all}
 use Rattle.text.specs.Digits.{hex, prefixed, value}
 use Rattle.text.specs.Word.{isWord}
-use Rattle.thumb_lowest.specs.CandidateParts.{flag}
+use Rattle.reading.specs.Parts.{flag}
 
 -- ---- a sum of texts, bracketed from the left as lines are written, or from the right as pieces are spelled
 abbrev left : List ℕ → List (List ℕ) → List ℕ

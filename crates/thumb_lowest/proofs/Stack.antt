@@ -25,9 +25,9 @@ use Rattle.thumb_disass.specs.Line.{baseText, fmtThumbAddSp, fmtThumbLdmStm, fm
 use Rattle.thumb_disass.specs.Print.{lineOf}
 use Rattle.thumb_lowest.proofs.Found.{Law, Words, exact, found, pick, row-is, rows-are}
 use Rattle.thumb_lowest.proofs.Parts.{flag-back, prefixed-back, prefixed-wordy, regroup}
-use Rattle.thumb_lowest.proofs.RegisterList.{behindWord, below-append, below16, bits-below, bits-few, bits-sum, list-back, list-first, list-good, list-spelled, same-bits, sum-append, sumOf}
+use Rattle.reading.proofs.RegisterList.{behindWord, below-append, below16, bits-below, bits-few, bits-sum, list-back, list-first, list-good, list-spelled, same-bits, sum-append, sumOf}
 use Rattle.thumb_lowest.specs.Candidate.{blockIn, operands, rows, signed, spIn, stackIn, suits}
-use Rattle.thumb_lowest.specs.CandidateParts.{flag, listIn, regIn}
+use Rattle.reading.specs.Parts.{flag, listIn, regIn}
 use Rattle.thumb_words.proofs.Laws.{NoHigher, parts, thumb-lower, thumb-read, thumb-words}
 use Rattle.thumb_words.proofs.Parts.{Fits}
 use Rattle.thumb_words.proofs.Words.{addSpWord, bench-base, ldmStm-least, ldmStmWord, pushPopWord}

@@ -26,7 +26,7 @@ use Rattle.thumb_disass.specs.Print.{lineOf}
 use Rattle.thumb_lowest.proofs.Found.{Law, Mnemonic, Words, exact, pick, row-is, rows-are}
 use Rattle.thumb_lowest.proofs.Parts.{prefixed-back, prefixed-wordy, regroup}
 use Rattle.thumb_lowest.specs.Candidate.{operands, rows, wideIn, suits}
-use Rattle.thumb_lowest.specs.CandidateParts.{flag}
+use Rattle.reading.specs.Parts.{flag}
 use Rattle.thumb_words.proofs.Laws.{parts, thumb-read, thumb-words}
 use Rattle.thumb_words.proofs.Parts.{Fits}
 use Rattle.thumb_words.proofs.Words.{ldrPcWord}

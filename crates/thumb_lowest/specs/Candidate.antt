@@ -13,7 +13,7 @@ use Rattle.common.specs.Bits.{bit}
 use Rattle.common.specs.Lists.{find, same}
 use Rattle.text.specs.Text.{text}
 use Rattle.text.specs.Word.{fromWord, has, packed, word}
-use Rattle.thumb_lowest.specs.CandidateParts.{bareIn, decIn, flag, hexIn, listIn, regIn}
+use Rattle.reading.specs.Parts.{bareIn, decIn, flag, hexIn, listIn, regIn}
 
 -- ---- the operands of each kind, as the bits that they fill in
 -- Rd and Rs, or Rd and Rb, in bits 5-0: words 1 and 2

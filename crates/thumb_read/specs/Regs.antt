@@ -2,7 +2,7 @@
 use mathlib.Core.Path.{_≡_}
 use mathlib.Core.List.{List}
 use Prim.Native.Nat.{ℕ}
-use Rattle.thumb_lowest.specs.CandidateParts.{regIn}
+use Rattle.reading.specs.Parts.{regIn}
 use Rattle.thumb_read.specs.declared.parts.Regs.{Regs}
 
 -- those of words 1, 2 and 3

@@ -10,13 +10,13 @@ ghost use Rattle.arm7tdmi.specs.Signed.{moved};
 ghost use Rattle.text.specs.Digits.{value};
 ghost use Rattle.text.specs.Word.{after, has, word};
 ghost use Rattle.thumb_lowest.specs.Candidate.{blockIn, callUnit, shiftIn, signed, spIn, transferUnit};
-ghost use Rattle.thumb_lowest.specs.CandidateParts.{flag, listIn, regIn};
-use crate::parts::as_flag;
+ghost use Rattle.reading.specs.Parts.{flag, listIn, regIn};
 use crate::parts::bare;
 use crate::parts::decimal;
-use crate::parts::hexadecimal;
-use crate::parts::register_list;
 use arm7tdmi::Form;
+use reading::parts::as_flag;
+use reading::parts::hexadecimal;
+use reading::parts::register_list;
 use text::read::contains;
 
 // Rd and Rs, or Rd and Rb.

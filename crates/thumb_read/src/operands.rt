@@ -21,10 +21,10 @@ use crate::fields::with_byte;
 use crate::fields::with_half;
 use crate::fields::with_number;
 use crate::parts::Regs;
-use crate::parts::hexadecimal;
 use crate::rows::Row;
 use arm7tdmi::Form;
 use arm7tdmi::thumb::ThumbFormat;
+use reading::parts::hexadecimal;
 
 // Whether a kind may have printed a line with its mnemonic, by the registers that words 2 and 3 name.
 pub fn suits(fmt: ThumbFormat, regs: Regs) -> bool

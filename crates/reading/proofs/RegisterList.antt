@@ -1,26 +1,26 @@
 -- A list of registers in a line: its names as pieces, and the numbers that they name. Assumes nothing.
-use Prim.Native.Nat.{_%_, _*_, _+_, _/_, _<_, _^_, _≤_, suc, zero, ℕ}
-use borrow.Author.Tests.{eqb-false, eqb-true, lt-ltb, ltb-true}
+use Prim.Native.Nat.{_%_, _*_, _+_, _-_, _/_, _<_, _^_, _≤_, suc, zero, ℕ}
+use borrow.Author.Tests.{eq-eqb, eqb-false, eqb-true, lt-ltb, ltb-true, ne-eqb}
 use lib.Dec.{eqb, ltb}
 use lib.ListN.{length, length-append}
 use lib.Pow.{high, low, mod-pow-add, pow-pos}
-use mathlib.Core.Bool.{Bool, cond, false, true, true≢false}
+use mathlib.Core.Bool.{Bool, _||_, cond, false, or-false, true, true≢false}
 use mathlib.Core.List.{List, [], _++_, _∷_, append-assoc, append-nil, map}
 use mathlib.Core.Path.{_∙_, _≡_, ap, refl, sym}
 use native.Mathlib.Nat.{mod-lt}
 use native.Mathlib.Numerals.{one-add}
 use native.Mathlib.Omega.{arith}
 use Rattle.arm7tdmi.proofs.Names.{reg-back, reg-wordy}
-use Rattle.arm7tdmi.specs.Names.{regNames, regString}
+use Rattle.arm7tdmi.specs.Names.{regNamed, regNames, regString}
 use Rattle.arm7tdmi.specs.Pieces.{joined, setBits}
 use Rattle.common.proofs.Tests.{and-left, and-right, at, at-not, by-test}
 use Rattle.common.specs.Bits.{bit}
 use Rattle.common.specs.Lists.{first}
-use Rattle.reading.proofs.Pieces.{Pieces, first-word, firstOf, from, from-nth, good, none, piece, spell}
+use Rattle.reading.proofs.Pieces.{Pieces, first-word, firstOf, from, from-nth, gapsHave, good, has-append, none, piece, spell}
 use Rattle.text.proofs.Word.{gap, gap-all, wordy}
 use Rattle.text.specs.Text.{text}
-use Rattle.text.specs.Word.{all, isGap, isWord, word}
-use Rattle.thumb_lowest.specs.CandidateParts.{listIn}
+use Rattle.text.specs.Word.{after, all, has, isGap, isWord, word}
+use Rattle.reading.specs.Parts.{listIn}
 
 -- ---- the numbers of the bits that are set
 abbrev pub sumOf : List ℕ → ℕ
@@ -114,11 +114,20 @@ module _ (z : List ℕ) (hz : gap z ≡ true) where
   list-good w g [] h hg e = rw (h, gap-append g z hg hz)
   list-good w g (x ∷ xs) h hg e = rw (h, hg, names-good x xs e)
 
+  -- a mark in it
+  names-has : (y x : ℕ) (xs : List ℕ) → has y (text ", ") ≡ false → gapsHave y (names x xs z) ≡ has y z
+  names-has y x [] e = or-false (has y z)
+  names-has y x (w ∷ ws) e = rw (e, names-has y w ws e)
+
+  pub list-has : (y : ℕ) (w g xs : List ℕ) → has y (text ", ") ≡ false → gapsHave y (behindWord w g xs z) ≡ (has y g || has y z)
+  list-has y w g [] e = or-false (has y (g ++ z)) ∙ has-append y g z
+  list-has y w g (x ∷ xs) e = rw (names-has y x xs e)
+
   -- its numbers
-  list-none : (k : ℕ) → listIn k [] ≡ 0
+  list-empty : (k : ℕ) → listIn k [] ≡ 0
   unfolding listIn word first
-  list-none zero = refl
-  list-none (suc k) = refl
+  list-empty zero = refl
+  list-empty (suc k) = refl
 
   name-some : (n : ℕ) → n < 16 → eqb (length (regString n)) 0 ≡ false
   unfolding regString regNames
@@ -130,11 +139,26 @@ module _ (z : List ℕ) (hz : gap z ≡ true) where
 
   names-back : (k x : ℕ) (xs : List ℕ) → length xs < k → below16 (x ∷ xs) ≡ true → listIn k (spell (names x xs z)) ≡ sumOf (x ∷ xs)
   names-back zero x xs h e = absurd (omega arith)
-  names-back (suc k) x [] h e = one-more k x z none (ltb-true x 16 (and-left (ltb x 16) true e)) (names-good x [] e) ∙ rw (list-none k)
+  names-back (suc k) x [] h e = one-more k x z none (ltb-true x 16 (and-left (ltb x 16) true e)) (names-good x [] e) ∙ rw (list-empty k)
   names-back (suc k) x (y ∷ ys) h e =
       one-more k x (text ", ") (names y ys z) (ltb-true x 16 (and-left (ltb x 16) (below16 (y ∷ ys)) e)) (names-good x (y ∷ ys) e)
       ∙ rw (names-back k y ys (omega arith) (and-right (ltb x 16) (below16 (y ∷ ys)) e))
 
   pub list-back : (k : ℕ) (w g xs : List ℕ) → length xs ≤ k → below16 xs ≡ true → listIn k (spell (from 1 (behindWord w g xs z))) ≡ sumOf xs
-  list-back k w g [] h e = list-none k
+  list-back k w g [] h e = list-empty k
   list-back k w g (x ∷ xs) h e = names-back k x xs (omega arith) e
+
+-- ---- a list as the code reads it: the count is used up, nothing is left, or one name and then the rest
+pub list-none : (l : List ℕ) → 0 ≡ listIn 0 l
+unfolding listIn
+list-none l = refl
+
+pub list-end : (k : ℕ) (l : List ℕ) → length (word l) ≡ 0 → 0 ≡ listIn k l
+unfolding listIn
+list-end zero l e = refl
+list-end (suc k) l e = rw (eq-eqb (length (word l)) 0 e)
+
+pub list-more : (k : ℕ) (l : List ℕ) → (k ≡ 0 → ⊥) → (length (word l) ≡ 0 → ⊥) → 2 ^ regNamed (word l) + listIn (k - 1) (after l) ≡ listIn k l
+unfolding listIn
+list-more zero l z e = absurd (z refl)
+list-more (suc k) l z e = let d : suc k - 1 ≡ k = omega arith in rw (ne-eqb (length (word l)) 0 e, d)

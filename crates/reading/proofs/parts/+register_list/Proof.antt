@@ -1,4 +1,4 @@
--- `arm_read::transfer::register_list`, which calls itself for the rest of the names, meets its contract. The measure is how many names are left. Assumes nothing.
+-- `reading::parts::register_list`, which calls itself for the rest of the names, meets its contract. The measure is how many names are left. Assumes nothing.
 use Prim.Native.Nat.{ℕ, _<_}
 use borrow.Author.Needs.{needs}
 use borrow.Fn.Kinds.{In}
@@ -7,13 +7,13 @@ use denote.Ref.{now}
 use mathlib.Core.Path.{_∙_}
 use native.Mathlib.Omega.{arith}
 use Rattle.arm7tdmi.proofs.read_reg.Reads as read-reg-reads
-use Rattle.arm_read.proofs.RegisterList.{list-end, list-more, list-none}
-use Rattle.arm_read.proofs.transfer.+register_list.Lts-register_list as lts
-use Rattle.arm_read.proofs.transfer.+register_list.Tie.{close}
-use Rattle.arm_read.proofs.transfer.+register_list.{statement}
-use Rattle.arm_read.proofs.transfer.list_bit.Reads as list-bit-reads
-use Rattle.arm_read.proofs.transfer.register_list.Kinds as register-list-kinds
-use Rattle.arm_read.proofs.transfer.register_list.Reads as register-list
+use Rattle.reading.proofs.RegisterList.{list-end, list-more, list-none}
+use Rattle.reading.proofs.parts.+register_list.Lts-register_list as lts
+use Rattle.reading.proofs.parts.+register_list.Tie.{close}
+use Rattle.reading.proofs.parts.+register_list.{statement}
+use Rattle.reading.proofs.parts.list_bit.Reads as list-bit-reads
+use Rattle.reading.proofs.parts.register_list.Kinds as register-list-kinds
+use Rattle.reading.proofs.parts.register_list.Reads as register-list
 use Rattle.text.proofs.read.first_word.Reads as first-word-reads
 use Rattle.text.proofs.read.next_word.Reads as next-word-reads
 

@@ -1,4 +1,4 @@
--- `arm_read::parts::hexadecimal` meets its contract. Assumes nothing.
+-- `reading::parts::hexadecimal` meets its contract. Assumes nothing.
 use Prim.Native.Nat.{_≤_}
 use borrow.Author.Needs.{needs}
 use denote.Ref.{now}
@@ -7,8 +7,8 @@ use mathlib.Core.Path.{_∙_}
 use native.Mathlib.Omega.{arith}
 use Rattle.common.proofs.Lists.{part-rest}
 use Rattle.text.specs.Digits.{valueFrom}
-use Rattle.arm_read.proofs.parts.hexadecimal.Statement.{statement}
-use Rattle.arm_read.proofs.parts.hexadecimal.Tie as tie
+use Rattle.reading.proofs.parts.hexadecimal.Statement.{statement}
+use Rattle.reading.proofs.parts.hexadecimal.Tie as tie
 
 returns : tie.Need-returns
 unfolding valueFrom

@@ -1,11 +1,11 @@
--- `thumb_read::parts::list_bit` meets its contract. Assumes nothing.
+-- `reading::parts::list_bit` meets its contract. Assumes nothing.
 use Prim.Native.Nat.{_%_, _*_, _^_}
 use borrow.Author.Needs.{needs}
 use mathlib.Core.Path.{_≡_}
 use native.Mathlib.Nat.{pow-le-pow-right}
 use native.Mathlib.Omega.{arith}
-use Rattle.thumb_read.proofs.parts.list_bit.Statement.{statement}
-use Rattle.thumb_read.proofs.parts.list_bit.Tie as tie
+use Rattle.reading.proofs.parts.list_bit.Statement.{statement}
+use Rattle.reading.proofs.parts.list_bit.Tie as tie
 
 returns : tie.Need-returns
 returns c =
