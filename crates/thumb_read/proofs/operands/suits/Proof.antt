@@ -1,88 +1,51 @@
--- `thumb_read::operands::suits` meets its contract. Assumes nothing.
-use Rattle.thumb_lowest.specs.Candidate.{suits}
+-- `thumb_read::operands::suits` meets its contract, kind by kind. Assumes nothing.
 use borrow.Author.Needs.{needs}
+use Rattle.thumb_lowest.specs.Candidate.{suits}
 use Rattle.thumb_read.proofs.operands.suits.Statement.{statement}
 use Rattle.thumb_read.proofs.operands.suits.Tie as tie
 
-returns : tie.Need-returns
-unfolding suits
-returns c = λ l v. rw (c .enum-told .given .1)
-
-returns-2 : tie.Need-returns-2
-unfolding suits
-returns-2 c = λ l v. rw (c .enum-told2 .given .1, ← v .1)
-
-returns-3 : tie.Need-returns-3
-unfolding suits
-returns-3 c = λ l v. rw (c .enum-told3 .given .1, ← v .1)
-
-returns-4 : tie.Need-returns-4
-unfolding suits
-returns-4 c = λ l v. rw (c .enum-told4 .given .1)
-
-returns-5 : tie.Need-returns-5
-unfolding suits
-returns-5 c = λ l v. rw (c .enum-told5 .given .1)
-
-returns-6 : tie.Need-returns-6
-unfolding suits
-returns-6 c = λ l v. rw (c .enum-told6 .given .1, ← v .1)
-
-returns-7 : tie.Need-returns-7
-unfolding suits
-returns-7 c = λ l v. rw (c .enum-told7 .given .1, ← v .2)
-
-returns-8 : tie.Need-returns-8
-unfolding suits
-returns-8 c = λ l v. rw (c .enum-told8 .given .1, ← v .2)
-
-returns-9 : tie.Need-returns-9
-unfolding suits
-returns-9 c = λ l v. rw (c .enum-told9 .given .1, ← v .1)
-
-returns-10 : tie.Need-returns-10
-unfolding suits
-returns-10 c = λ l v. rw (c .enum-told10 .given .1, ← v .1)
-
-returns-11 : tie.Need-returns-11
-unfolding suits
-returns-11 c = λ l v. rw (c .enum-told11 .given .1, ← v .1)
-
-returns-12 : tie.Need-returns-12
-unfolding suits
-returns-12 c = λ l v. rw (c .enum-told12 .given .1, ← v .1)
-
-returns-13 : tie.Need-returns-13
-unfolding suits
-returns-13 c = λ l v. rw (c .enum-told13 .given .1)
-
-returns-14 : tie.Need-returns-14
-unfolding suits
-returns-14 c = λ l v. rw (c .enum-told14 .given .1)
-
-returns-15 : tie.Need-returns-15
-unfolding suits
-returns-15 c = λ l v. rw (c .enum-told15 .given .1)
-
-returns-16 : tie.Need-returns-16
-unfolding suits
-returns-16 c = λ l v. rw (c .enum-told16 .given .1)
-
-returns-17 : tie.Need-returns-17
-unfolding suits
-returns-17 c = λ l v. rw (c .enum-told17 .given .1)
-
-returns-18 : tie.Need-returns-18
-unfolding suits
-returns-18 c = λ l v. rw (c .enum-told18 .given .1)
-
-returns-19 : tie.Need-returns-19
-unfolding suits
-returns-19 c = λ l v. rw (c .enum-told19 .given .1)
-
-returns-20 : tie.Need-returns-20
-unfolding suits
-returns-20 c = λ l v. rw (c .enum-told20 .given .1)
-
 pub suits-spec : {M : Type 1} → statement M
-suits-spec = tie.close (tie.spec (λ c. search needs) (λ c. search needs) (λ c. search needs) (λ c. search needs) (λ c. search needs) (λ c. search needs) (λ c. search needs) (λ c. search needs) (λ c. search needs) (λ c. search needs) (λ c. search needs) (λ c. search needs) (λ c. search needs) (λ c. search needs) (λ c. search needs) (λ c. search needs) (λ c. search needs) (λ c. search needs) (λ c. search needs) (λ c. search needs) returns returns-2 returns-3 returns-4 returns-5 returns-6 returns-7 returns-8 returns-9 returns-10 returns-11 returns-12 returns-13 returns-14 returns-15 returns-16 returns-17 returns-18 returns-19 returns-20)
+unfolding suits
+suits-spec =
+    tie.close
+    (tie.spec
+    (λ c. search needs)
+    (λ c. search needs)
+    (λ c. search needs)
+    (λ c. search needs)
+    (λ c. search needs)
+    (λ c. search needs)
+    (λ c. search needs)
+    (λ c. search needs)
+    (λ c. search needs)
+    (λ c. search needs)
+    (λ c. search needs)
+    (λ c. search needs)
+    (λ c. search needs)
+    (λ c. search needs)
+    (λ c. search needs)
+    (λ c. search needs)
+    (λ c. search needs)
+    (λ c. search needs)
+    (λ c. search needs)
+    (λ c. search needs)
+    (λ c l v. rw (c .enum-told .given .1))
+    (λ c l v. rw (c .enum-told2 .given .1, ← v .1))
+    (λ c l v. rw (c .enum-told3 .given .1, ← v .1))
+    (λ c l v. rw (c .enum-told4 .given .1))
+    (λ c l v. rw (c .enum-told5 .given .1))
+    (λ c l v. rw (c .enum-told6 .given .1, ← v .1))
+    (λ c l v. rw (c .enum-told7 .given .1, ← v .2))
+    (λ c l v. rw (c .enum-told8 .given .1, ← v .2))
+    (λ c l v. rw (c .enum-told9 .given .1, ← v .1))
+    (λ c l v. rw (c .enum-told10 .given .1, ← v .1))
+    (λ c l v. rw (c .enum-told11 .given .1, ← v .1))
+    (λ c l v. rw (c .enum-told12 .given .1, ← v .1))
+    (λ c l v. rw (c .enum-told13 .given .1))
+    (λ c l v. rw (c .enum-told14 .given .1))
+    (λ c l v. rw (c .enum-told15 .given .1))
+    (λ c l v. rw (c .enum-told16 .given .1))
+    (λ c l v. rw (c .enum-told17 .given .1))
+    (λ c l v. rw (c .enum-told18 .given .1))
+    (λ c l v. rw (c .enum-told19 .given .1))
+    (λ c l v. rw (c .enum-told20 .given .1)))
