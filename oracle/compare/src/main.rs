@@ -239,24 +239,29 @@ fn usual(words: u64) -> Tally {
     tally
 }
 
+/// What the arguments ask for, or nothing if they are none that it knows.
+fn compared(arguments: &[&str]) -> Option<Tally> {
+    match arguments {
+        [] => Some(usual(20_000_000)),
+        ["--words", number] => Some(usual(number.parse().ok()?)),
+        ["--long", address] => {
+            let address = u32::from_str_radix(address, 16).ok()?;
+            Some(part("all ARM words", 1 << 32, |place| Row {
+                address,
+                word: Word::Arm(place as u32),
+            }))
+        }
+        _ => None,
+    }
+}
+
 fn main() -> ExitCode {
     rows::silence_panics();
     let arguments: Vec<String> = env::args().skip(1).collect();
     let arguments: Vec<&str> = arguments.iter().map(String::as_str).collect();
-    let tally = match arguments[..] {
-        [] => usual(20_000_000),
-        ["--words", number] => usual(number.parse().expect("a number of words")),
-        ["--long", address] => {
-            let address = u32::from_str_radix(address, 16).expect("an address in hexadecimal");
-            part("all ARM words", 1 << 32, |place| Row {
-                address,
-                word: Word::Arm(place as u32),
-            })
-        }
-        _ => {
-            eprintln!("usage: compare [--words N | --long ADDRESS]");
-            return ExitCode::from(2);
-        }
+    let Some(tally) = compared(&arguments) else {
+        eprintln!("usage: compare [--words N | --long ADDRESS], the address as hex digits");
+        return ExitCode::from(2);
     };
     for difference in &tally.shown {
         println!("{difference}");
