@@ -10,6 +10,12 @@
  * word that prints just that line at that address, or 4 with word 0 where no word
  * does.
  *
+ * What the pointers must be: line points to capacity bytes (a print) or length
+ * bytes (a read), and may be NULL where that number is 0; length and word point
+ * to memory for one value each, and are never NULL. What a call writes to must
+ * not overlap anything else that it is given. The functions keep no state, so
+ * any thread may call them at any time.
+ *
  * Link with target/staticlib/libmodestsilk.a (rt staticlib modestsilk).
  */
 #ifndef MODESTSILK_H

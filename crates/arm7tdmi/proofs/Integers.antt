@@ -1,18 +1,23 @@
 -- Signed numbers of 32 bits: negation, the shift that keeps the sign, and the bits of a sign-extended field. Assumes nothing.
-use Prim.Native.Nat.{_*_, _-_, _/_, _<_, _^_, _≤_, suc, zero, ℕ}
-use borrow.Author.Tests.{ltb-true}
+use Prim.Native.Nat.{_%_, _*_, _-_, _/_, _<_, _^_, _≤_, suc, zero, ℕ}
+use borrow.Author.Tests.{le-ltb, ltb-true}
 use lib.Dec.{ltb}
-use lib.IntN.{+ℤ-idl, _*ℤ_, _-ℤ_, natAbs, negsuc, negsuc-*ℤ-pos, negℤ, pos, ℤ}
+use lib.IntN.{+ℤ-idl, _*ℤ_, _+ℤ_, _-ℤ_, negsuc, negsuc-*ℤ-pos, negℤ, pos, ℤ}
+use lib.Pow.{pow-lt}
 use lib.Signed.{ltZ, mag, shrZ}
 use mathlib.Core.Bool.{false, true, true≢false}
 use mathlib.Core.Path.{_∙_, _≡_, ap, refl, subst, sym}
-use mir.Syntax.{w32}
+use mir.Syntax.{w32, w64}
 use mir.Val.{SFits, ofZ, toZ}
-use mir.ValLaws.{toZ-ofZ, toZ-pos}
-use native.Mathlib.Nat.{mul-le-mul-right}
+use mir.ValLaws.{ofZ-fits, toZ-ofZ, toZ-pos}
+use native.Mathlib.Nat.{mod-eq-of-lt, mul-le-mul-right}
 use native.Mathlib.Omega.{arith}
 use Rattle.arm7tdmi.specs.Signed.{extended, signedTimes}
 use Rattle.common.proofs.Tests.{by-test}
+
+-- ---- a power of two that has room in 32 bits
+pub pow-whole : (n : ℕ) → n < 32 → 2 ^ n % 2 ^ 32 ≡ 2 ^ n
+pow-whole n h = mod-eq-of-lt (pow-lt {j = 32} h)
 
 -- ---- a number below zero, and the negative of a number
 pub below-zero : (k : ℕ) → k < 2 ^ 31 → toZ w32 (ofZ w32 (negsuc k)) ≡ negsuc k
@@ -62,7 +67,7 @@ scaled-up n h =
     ∙ ap (λ (k : ℕ). toZ w32 k) q
     ∙ toZ-pos w32 (n * 4) (omega arith)
 
--- ---- a signed number's size and its bits
+-- ---- a signed number and its bits
 pub kept-value : (z : ℤ) → mag z < 2 ^ 31 - 1 → toZ w32 (ofZ w32 z) ≡ z
 kept-value z h = toZ-ofZ w32 z (record { sfits = omega arith })
 
@@ -71,38 +76,34 @@ pub kept-negative : (m : ℕ) → m < 2 ^ 31 → toZ w32 (ofZ w32 (negℤ (pos m
 kept-negative zero h = toZ-pos w32 0 (omega arith)
 kept-negative (suc k) h = below-zero k (omega arith)
 
--- what the code has of a number below zero, and of another
-pub record Down (z : ℤ) : Type 0 where
-  pub negs : pos 0 -ℤ z ≡ pos (natAbs z)
-  pub some : 0 < natAbs z
-  pub small : natAbs z < 2 ^ 31
-  pub bits : ofZ w32 z ≡ 2 ^ 32 - natAbs z
+-- what the code has of a number of 32 bits: itself, and itself widened to 64
+module _ (z : ℤ) (f : SFits w32 z) where
+  pub held : toZ w32 (ofZ w32 z) ≡ z
+  held = toZ-ofZ w32 z f
 
-pub record Up (z : ℤ) : Type 0 where
-  pub whole : z ≡ pos (natAbs z)
-  pub small : natAbs z < 2 ^ 31
-  pub bits : ofZ w32 z ≡ natAbs z
+  pub widens : SFits w64 (toZ w32 (ofZ w32 z))
+  widens = subst (SFits w64) (sym held) (record { sfits = let h = f .sfits in omega arith })
 
-down : (z : ℤ) → mag z < 2 ^ 31 - 1 → ltZ z (pos 0) ≡ true → Down z
-down (pos n) h t = let a = ltb-true n 0 t in absurd (omega arith)
-down (negsuc k) h t = record { negs = +ℤ-idl (pos (suc k)); some = omega arith; small = omega arith; bits = refl }
+  -- one below zero, raised by 2 ^ 32
+  module _ (t : ltZ (toZ w32 (ofZ w32 z)) (pos 0) ≡ true) where
+    raised : (y : ℤ) → SFits w32 y → ltZ y (pos 0) ≡ true → y +ℤ pos (2 ^ 32) ≡ pos (ofZ w32 y)
+    raised (pos n) g s = let a = ltb-true n 0 s in absurd (omega arith)
+    raised (negsuc k) g s = rw (le-ltb (2 ^ 32) (suc k) (let h = g .sfits in omega arith))
 
-up : (z : ℤ) → mag z < 2 ^ 31 - 1 → ltZ z (pos 0) ≡ false → Up z
-up (pos n) h t = record { whole = refl; small = omega arith; bits = refl }
-up (negsuc k) h t = absurd (true≢false t)
+    pub sum-is : toZ w64 (ofZ w64 (toZ w32 (ofZ w32 z))) +ℤ toZ w64 (2 ^ 32) ≡ pos (ofZ w32 z)
+    sum-is = ap (λ (y : ℤ). y +ℤ pos (2 ^ 32)) (toZ-ofZ w64 (toZ w32 (ofZ w32 z)) widens ∙ held) ∙ raised z f (ap (λ (y : ℤ). ltZ y (pos 0)) (sym held) ∙ t)
 
-pub going-down : (z : ℤ) → mag z < 2 ^ 31 - 1 → ltZ (toZ w32 (ofZ w32 z)) (pos 0) ≡ true → Down z
-going-down z h t = down z h (ap (λ (y : ℤ). ltZ y (pos 0)) (sym (kept-value z h)) ∙ t)
+    pub sum-held : toZ w64 (ofZ w64 (toZ w64 (ofZ w64 (toZ w32 (ofZ w32 z))) +ℤ toZ w64 (2 ^ 32))) ≡ pos (ofZ w32 z)
+    sum-held = ap (λ (y : ℤ). toZ w64 (ofZ w64 y)) sum-is ∙ toZ-pos w64 (ofZ w32 z) (let h = ofZ-fits w32 z f .fits in omega arith)
 
-pub going-up : (z : ℤ) → mag z < 2 ^ 31 - 1 → ltZ (toZ w32 (ofZ w32 z)) (pos 0) ≡ false → Up z
-going-up z h t = up z h (ap (λ (y : ℤ). ltZ y (pos 0)) (sym (kept-value z h)) ∙ t)
+  -- another
+  module _ (t : ltZ (toZ w32 (ofZ w32 z)) (pos 0) ≡ false) where
+    unraised : (y : ℤ) → ltZ y (pos 0) ≡ false → y ≡ pos (ofZ w32 y)
+    unraised (pos n) s = refl
+    unraised (negsuc k) s = absurd (true≢false s)
 
-module _ (z : ℤ) (h : mag z < 2 ^ 31 - 1) (d : Down z) where
-  pub neg-is : pos 0 -ℤ toZ w32 (ofZ w32 z) ≡ pos (natAbs z)
-  neg-is = ap (λ (y : ℤ). pos 0 -ℤ y) (kept-value z h) ∙ d .negs
-
-  pub size-is : toZ w32 (ofZ w32 (pos 0 -ℤ toZ w32 (ofZ w32 z))) ≡ pos (natAbs z)
-  size-is = ap (λ (y : ℤ). toZ w32 (ofZ w32 y)) neg-is ∙ toZ-pos w32 (natAbs z) (d .small)
+    pub up-held : toZ w32 (ofZ w32 z) ≡ pos (ofZ w32 z)
+    up-held = held ∙ unraised z (ap (λ (y : ℤ). ltZ y (pos 0)) (sym held) ∙ t)
 
 -- ---- a sign-extended field: its size, and its bits, for any width and scale that leave room
 module _ (w k x : ℕ) (h : x < 2 ^ w) (s : 0 < k) (r : 2 ^ w * k ≤ 2 ^ 30) where
@@ -132,9 +133,6 @@ module _ (w k x : ℕ) (h : x < 2 ^ w) (s : 0 < k) (r : 2 ^ w * k ≤ 2 ^ 30) wh
   module _ {z : ℤ} (e : z ≡ signedTimes w k x) where
     pub handed : toZ w32 (ofZ w32 z) ≡ signedTimes w k x
     handed = ap (λ (y : ℤ). toZ w32 (ofZ w32 y)) e ∙ kept-value (signedTimes w k x) extended-small
-
-    pub handed-small : mag (toZ w32 (ofZ w32 z)) < 2 ^ 31 - 1
-    handed-small = rw handed extended-small
 
     pub handed-bits : ofZ w32 (toZ w32 (ofZ w32 z)) ≡ extended w k x
     handed-bits = rw handed extended-bits

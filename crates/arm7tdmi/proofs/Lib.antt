@@ -2,5 +2,3 @@ pub mod Rotate
 pub mod Names
 pub mod Rows
 pub mod Integers
-pub mod Registers
-pub mod Lengths

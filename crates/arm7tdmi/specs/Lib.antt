@@ -1,8 +1,5 @@
 pub mod Names
+pub mod Cond
 pub mod Alu
 pub mod Signed
-pub mod Arm
-pub mod Thumb
-pub mod Pieces
 pub mod Kinds
-pub mod Answer

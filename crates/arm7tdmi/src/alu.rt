@@ -1,6 +1,6 @@
 // Opcodes, shifts and operands.
 ghost use mathlib.Core.Path.{_≡_};
-ghost use Prim.Native.Nat.{_%_, _^_, _<_};
+ghost use Prim.Native.Nat.{_%_, _<_};
 ghost use Rattle.arm7tdmi.specs.Alu.{aluOpCode, aluNumber, isSettingFlags, barrelShiftOpCode, barrelShiftNumber, rotateRight, decodeRotatedImmediate};
 
 pub enum AluOpCode {

@@ -2,7 +2,16 @@
 ghost use mathlib.Core.Path.{_≡_};
 ghost use Prim.Native.Nat.{_/_, _%_, _^_};
 ghost use Rattle.common.specs.Bits.{bit, bitRange};
-use crate::signed::pow2;
+
+// A power of two; 0 where it has no room in 32 bits.
+pub fn pow2(n: u32) -> u32
+    ensures { λ r. ⌜ r ≡ 2 ^ n % 2 ^ 32 ⌝ }
+{
+    if 32 <= n {
+        return 0;
+    }
+    1 << n
+}
 
 // The bits from n on.
 fn high(raw: u32, n: u32) -> u32

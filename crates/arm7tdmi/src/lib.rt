@@ -1,4 +1,4 @@
-// Words of the ARM7TDMI: their kinds and their fields. The files are named as in the Rust original.
+// What words of both sets are made of: names, numbers, opcodes and operands. The files are named as in the Rust original.
 ghost use mathlib.Core.List.{map};
 ghost use mathlib.Core.Path.{_≡_};
 ghost use Prim.Native.Nat.{_+_, _*_, _^_, _≤_};
@@ -10,24 +10,15 @@ use text::put::put_byte;
 use text::read::pack;
 
 pub mod alu;
-pub mod arm;
 pub mod bit;
-pub mod disass;
+pub mod cond;
 pub mod memory;
 pub mod psr;
-mod signed;
-pub mod thumb;
 
 // Which line is meant: the bench viewer's, or the data sheet's.
 pub enum Form {
     Bench,
     Sheet,
-}
-
-// What a print answers: a refusal's number with length 0, or 0 with the line's length.
-pub struct Printed {
-    pub number: u32,
-    pub length: usize,
 }
 
 // The name of a register, `reg_string` of the Rust; nothing for a number past 15.

@@ -1,124 +1,32 @@
 -- A line has from 5 to 80 bytes. Assumes nothing.
 use Prim.Native.Nat.{_-_, _≤_, ℕ}
 use mathlib.Core.Bool.{_&&_, not}
-use mathlib.Core.Path.{refl}
 use native.Mathlib.Omega.{arith}
-use Rattle.arm7tdmi.proofs.Lengths.{condAt-within, either-within, ifSet-within, regAt-within, registers-within}
+use Rattle.lines.proofs.Lengths.{condAt-within, either-within, ifSet-within, regAt-within, registers-within}
 use Rattle.arm7tdmi.specs.Alu.{aluOpCode, decodeRotatedImmediate, isSettingFlags}
-use Rattle.arm7tdmi.specs.Arm.{branchTarget, halfwordType, ldrStrHsImmOffset, ldrStrHsRegOffset, ldrStrOffset, operand2}
+use Rattle.arm.specs.Fields.{branchTarget, halfwordType, ldrStrHsImmOffset, ldrStrHsRegOffset, ldrStrOffset, operand2}
 use Rattle.arm7tdmi.specs.Names.{regNames, regString}
-use Rattle.arm7tdmi.specs.Pieces.{regAt}
+use Rattle.lines.specs.Pieces.{regAt}
 use Rattle.arm7tdmi.specs.declared.Form.{Form}
 use Rattle.arm7tdmi.specs.declared.Form.the-variants.{Bench, Sheet}
 use Rattle.arm7tdmi.specs.declared.alu.AluOpCode.{AluOpCode}
-use Rattle.arm7tdmi.specs.declared.alu.BarrelShiftOpCode.{BarrelShiftOpCode}
 use Rattle.arm7tdmi.specs.declared.alu.BarrelShifterValue.{BarrelShifterValue}
-use Rattle.arm7tdmi.specs.declared.alu.ShiftRegisterBy.{ShiftRegisterBy}
-use Rattle.arm7tdmi.specs.declared.alu.ShiftedRegister.{ShiftedRegister}
-use Rattle.arm7tdmi.specs.declared.alu.Sign.{Sign}
-use Rattle.arm7tdmi.specs.declared.arm.ArmFormat.{ArmFormat}
-use Rattle.arm_disass.specs.Line.{addedRegister, benchOffset, bxCond, byAmount, byRegister, comment, commented, condMark, decodedText, flagText, flags, flagsComment, fmtBranch, fmtBx, fmtDataProcessing, fmtHalfword, fmtLdmStm, fmtLdrStr, fmtLdrStrHsImmOffset, fmtLdrStrHsRegOffset, fmtMove, fmtMrs, fmtMsr, fmtMsrFlags, fmtMulMla, fmtMullMlal, fmtOpcode, fmtOperand2, fmtRnOffset, fmtSwi, fmtSwp, fmtTest, fmtThree, halfwordText, immediate, immediateOffset, indexed, isLsl0, isMove, magnitude, offsetText, opText, rdText, sheetOffset, shiftBy, shiftText, shiftedRegister, signText, signedRegister, userMark, valueComment}
-use Rattle.arm_disass.specs.Print.{lineOf}
+use Rattle.arm.specs.declared.ArmFormat.{ArmFormat}
+use Rattle.arm_disass.specs.Line.{bxCond, condMark, fmtBranch, fmtBx, fmtDataProcessing, fmtHalfword, fmtLdmStm, fmtLdrStr, fmtLdrStrHsImmOffset, fmtLdrStrHsRegOffset, fmtMove, fmtMrs, fmtMsr, fmtMsrFlags, fmtMulMla, fmtMullMlal, fmtOpcode, fmtSwi, fmtSwp, fmtTest, fmtThree, halfwordText, isMove, opText, userMark, lineOf}
 use Rattle.common.specs.Bits.{bit, bitRange}
-use Rattle.text.proofs.Within.{Within, _&_, dec-within, exactly, loosely, none, of-two, or-none, prefixed-within, short-entry}
+use Rattle.text.proofs.Within.{Within, _&_, exactly, loosely, none, of-two, or-none, prefixed-within}
 use Rattle.text.specs.Text.{text}
 use Rattle.arm7tdmi.specs.declared.alu.AluOpCode.the-variants as Op
-use Rattle.arm7tdmi.specs.declared.alu.BarrelShiftOpCode.the-variants as Shift
-use Rattle.arm7tdmi.specs.declared.alu.ShiftRegisterBy.the-variants as By
-use Rattle.arm7tdmi.specs.declared.alu.Sign.the-variants as S
-use Rattle.arm7tdmi.specs.declared.alu.BarrelShifterValue.the-variants as Value
-use Rattle.arm7tdmi.specs.declared.alu.Decoded.{Decoded}
-use Rattle.arm7tdmi.specs.declared.alu.Decoded.the-variants as D
-use Rattle.arm7tdmi.specs.declared.arm.ArmHalfwordTransferType.{ArmHalfwordTransferType}
-use Rattle.arm7tdmi.specs.declared.arm.ArmHalfwordTransferType.the-variants as Half
-use Rattle.arm7tdmi.specs.declared.arm.ArmFormat.the-variants as A
+use Rattle.arm.specs.declared.ArmHalfwordTransferType.{ArmHalfwordTransferType}
+use Rattle.arm.specs.declared.ArmHalfwordTransferType.the-variants as Half
+use Rattle.arm.specs.declared.ArmFormat.the-variants as A
+use Rattle.arm_operand.proofs.Lengths.{added, flags-within, operand, rd, rn-offset}
 
 mark : (raw : ℕ) → Within 0 2 (condMark raw)
 mark raw = condAt-within raw 28 32
 
 reg : (raw a b : ℕ) → b - a ≤ 4 → Within 2 3 (regAt raw a b)
 reg raw a b h = regAt-within raw a b h
-
--- ---- operands
-shift : (op : BarrelShiftOpCode) → Within 3 3 (shiftText op)
-unfolding shiftText
-shift Shift.LSL = exactly (text "lsl")
-shift Shift.LSR = exactly (text "lsr")
-shift Shift.ASR = exactly (text "asr")
-shift Shift.ROR = exactly (text "ror")
-
--- a register or nothing
-named : (n : ℕ) → Within 0 3 (regString n)
-unfolding regString regNames
-named n = short-entry 3 regNames refl n
-
-by-amount : (op : BarrelShiftOpCode) (n : ℕ) → Within 0 17 (byAmount op n)
-unfolding byAmount
-by-amount op n =
-    of-two (isLsl0 op n) (none 17)
-    (loosely (exactly (text ", ") & shift op & exactly (text " #") & dec-within n) (omega arith) (omega arith))
-
-by : (op : BarrelShiftOpCode) (b : ShiftRegisterBy) → Within 0 17 (shiftBy op b)
-unfolding shiftBy byRegister
-by op (By.ByAmount n) = by-amount op n
-by op (By.ByRegister rs) = loosely (exactly (text ", ") & shift op & exactly (text " ") & named rs) (omega arith) (omega arith)
-
-shifted-within : (s : ShiftedRegister) → Within 0 20 (shiftedRegister s)
-unfolding shiftedRegister
-shifted-within s = named (s .reg) & by (s .«bs_op») (s .«shift_by»)
-
-decoded : (d : Decoded) → Within 0 24 (decodedText d)
-unfolding decodedText immediate
-decoded D.Nothing = none 24
-decoded (D.Value v) =
-    loosely (exactly (text "#") & dec-within v & exactly (text "\t; ") & prefixed-within 1 v (omega arith)) (omega arith) (omega arith)
-
-operand : (o : BarrelShifterValue) → Within 0 24 (fmtOperand2 o)
-unfolding fmtOperand2
-operand (Value.ImmediateValue v) = none 24
-operand (Value.RotatedImmediate v n) = decoded (decodeRotatedImmediate (Value.RotatedImmediate v n))
-operand (Value.ShiftedRegister s) = loosely (shifted-within s) (omega arith) (omega arith)
-
--- ---- offsets
-bench-offset : (v : ℕ) → Within 2 11 (benchOffset v)
-unfolding benchOffset
-bench-offset v = exactly (text "#") & dec-within v
-
-immediate-offset : (form : Form) (raw v : ℕ) → Within 0 12 (immediateOffset form raw v)
-unfolding immediateOffset sheetOffset
-immediate-offset Bench raw v = loosely (bench-offset v) (omega arith) (omega arith)
-immediate-offset Sheet raw v =
-    of-two (bit raw 23) (loosely (bench-offset v) (omega arith) (omega arith))
-    (loosely (exactly (text "#-") & dec-within (magnitude v)) (omega arith) (omega arith))
-
-sign : (s : Sign) → Within 0 1 (signText s)
-unfolding signText
-sign S.Added = none 1
-sign S.Subtracted = loosely (exactly (text "-")) (omega arith) (omega arith)
-sign S.Unsaid = none 1
-
-offset : (form : Form) (raw : ℕ) (o : BarrelShifterValue) → Within 0 21 (offsetText form raw o)
-unfolding offsetText signedRegister
-offset form raw (Value.ImmediateValue v) = loosely (immediate-offset form raw v) (omega arith) (omega arith)
-offset form raw (Value.RotatedImmediate v n) = none 21
-offset form raw (Value.ShiftedRegister s) = sign (s .added) & shifted-within s
-
-indexed-within : (form : Form) (raw : ℕ) (o : BarrelShifterValue) → Within 0 25 (indexed form raw o)
-unfolding indexed
-indexed-within form raw o =
-    of-two (bit raw 24)
-    (loosely (exactly (text ", ") & offset form raw o & exactly (text "]") & ifSet-within raw 21 (exactly (text "!"))) (omega arith) (omega arith))
-    (loosely (exactly (text "], ") & offset form raw o) (omega arith) (omega arith))
-
-comment-within : (pc raw : ℕ) (o : BarrelShifterValue) → Within 0 13 (comment pc raw o)
-unfolding comment valueComment
-comment-within pc raw (Value.ImmediateValue v) = loosely (exactly (text "\t; ") & prefixed-within 1 (commented pc raw v) (omega arith)) (omega arith) (omega arith)
-comment-within pc raw (Value.RotatedImmediate v n) = none 13
-comment-within pc raw (Value.ShiftedRegister s) = none 13
-
-rn-offset : (form : Form) (pc raw : ℕ) (o : BarrelShifterValue) → Within 3 42 (fmtRnOffset form pc raw o)
-unfolding fmtRnOffset
-rn-offset form pc raw o = exactly (text "[") & reg raw 16 20 (omega arith) & indexed-within form raw o & comment-within pc raw o
 
 -- ---- lines
 opcode : (op : AluOpCode) → Within 3 3 (opText op)
@@ -139,11 +47,6 @@ opcode Op.ORR = exactly (text "orr")
 opcode Op.MOV = exactly (text "mov")
 opcode Op.BIC = exactly (text "bic")
 opcode Op.MVN = exactly (text "mvn")
-
-rd : (form : Form) (raw : ℕ) → Within 2 3 (rdText form raw)
-unfolding rdText
-rd Bench raw = reg raw 16 20 (omega arith)
-rd Sheet raw = reg raw 12 16 (omega arith)
 
 op-head : (form : Form) (raw : ℕ) (op : AluOpCode) → Within 8 17 (fmtOpcode form raw op)
 unfolding fmtOpcode fmtMove fmtTest fmtThree
@@ -179,22 +82,6 @@ bx-cond : (form : Form) (raw : ℕ) → Within 0 2 (bxCond form raw)
 unfolding bxCond
 bx-cond Bench raw = none 2
 bx-cond Sheet raw = mark raw
-
-added : (raw : ℕ) → Within 0 5 (addedRegister raw)
-unfolding addedRegister
-added raw = or-none (bit raw 21) (exactly (text ", ") & reg raw 12 16 (omega arith))
-
-flag : (v n : ℕ) → Within 4 5 (flagText v n)
-unfolding flagText
-flag v n = either-within v n (loosely (exactly (text "true")) (omega arith) (omega arith)) (loosely (exactly (text "false")) (omega arith) (omega arith))
-
-flags-within : (d : Decoded) → Within 0 34 (flagsComment d)
-unfolding flagsComment flags
-flags-within D.Nothing = none 34
-flags-within (D.Value v) =
-    loosely
-    (exactly (text "\t; N=") & flag v 31 & exactly (text " Z=") & flag v 30 & exactly (text " C=") & flag v 29 & exactly (text " V=") & flag v 28)
-    (omega arith) (omega arith)
 
 ldm : (raw : ℕ) → Within 5 80 (fmtLdmStm raw)
 unfolding fmtLdmStm regString regNames

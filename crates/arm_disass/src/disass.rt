@@ -1,31 +1,33 @@
 // One function for each `fmt_` function of the Rust, in its order.
 ghost use mathlib.Core.Path.{_≡_};
-ghost use Rattle.text.specs.Wrote.{Wrote};
-ghost use Rattle.arm7tdmi.specs.Alu.{aluOpCode};
-ghost use Rattle.arm_disass.specs.Line.{opText, halfwordText, bxCond, fmtBx, fmtBranch, rdText, fmtMove, fmtTest, fmtThree, isMove, fmtOpcode, fmtDataProcessing, userMark, fmtLdrStr, fmtLdmStm, fmtMrs, fmtMsr, flagText, flags, flagsComment, fmtMsrFlags, addedRegister, fmtMulMla, fmtMullMlal, fmtHalfword, fmtLdrStrHsImmOffset, fmtLdrStrHsRegOffset, fmtSwi, fmtSwp};
-use crate::operand::fmt_operand2;
-use crate::operand::fmt_rn_offset;
+ghost use Rattle.text.specs.Text.{text};
+ghost use Rattle.text.specs.Wrote.{Wrote, WroteBoth};
+ghost use Rattle.arm_disass.specs.Line.{condMark, opText, halfwordText, bxCond, fmtBx, fmtBranch, fmtMove, fmtTest, fmtThree, isMove, fmtOpcode, fmtDataProcessing, userMark, fmtLdrStr, fmtLdmStm, fmtMrs, fmtMsr, fmtMsrFlags, fmtMulMla, fmtMullMlal, fmtHalfword, fmtLdrStrHsImmOffset, fmtLdrStrHsRegOffset, fmtSwi, fmtSwp};
+use arm::ArmHalfwordTransferType;
+use arm::branch_target;
+use arm::halfword_data_transfer_type;
+use arm::ldr_str_hs_imm_offset;
+use arm::ldr_str_hs_reg_offset;
+use arm::ldr_str_offset;
+use arm::opcode;
+use arm::operand2;
+use arm::pre_index_flag;
+use arm::swi_comment;
+use arm::write_back_flag;
+use arm_operand::fmt_operand2;
+use arm_operand::fmt_rn_offset;
+use arm_operand::put_added_register;
+use arm_operand::put_flags_comment;
+use arm_operand::put_rd;
 use arm7tdmi::Form;
 use arm7tdmi::alu::AluOpCode;
 use arm7tdmi::alu::BarrelShifterValue;
-use arm7tdmi::alu::Decoded;
-use arm7tdmi::arm::ArmHalfwordTransferType;
-use arm7tdmi::arm::branch_target;
-use arm7tdmi::arm::halfword_data_transfer_type;
-use arm7tdmi::arm::ldr_str_hs_imm_offset;
-use arm7tdmi::arm::ldr_str_hs_reg_offset;
-use arm7tdmi::arm::ldr_str_offset;
-use arm7tdmi::arm::opcode;
-use arm7tdmi::arm::operand2;
-use arm7tdmi::arm::pre_index_flag;
-use arm7tdmi::arm::swi_comment;
-use arm7tdmi::arm::write_back_flag;
-use arm7tdmi::bit::bit;
-use arm7tdmi::disass::put_cond_at;
-use arm7tdmi::disass::put_either;
-use arm7tdmi::disass::put_mark;
-use arm7tdmi::disass::put_reg_at;
-use arm7tdmi::disass::put_registers;
+use lines::put_cond_at;
+use lines::put_either;
+use lines::put_mark;
+use lines::put_reg_at;
+use lines::put_reg_comma;
+use lines::put_registers;
 use text::put::part;
 use text::put::put_0x;
 use text::put::put_byte;
@@ -54,6 +56,14 @@ fn put_halfword_type(buf: &mut [u8], at: usize, t: ArmHalfwordTransferType) -> u
     }
 }
 
+// The condition of a word, and the tab behind the mnemonic.
+fn put_cond_tab(buf: &mut [u8], at: usize, raw: u32) -> usize
+    ensures { λ r. ⌜ WroteBoth (now (buf .entry)) at (condMark raw) (text "\t") (now (buf .exit)) r ⌝ }
+{
+    let at = put_cond_at(buf, at, raw, 28, 32);
+    put_byte(buf, at, b'\t')
+}
+
 // S3: the sheet's bx has its condition.
 fn put_bx_cond(buf: &mut [u8], at: usize, form: Form, raw: u32) -> usize
     ensures { λ r. ⌜ Wrote (now (buf .entry)) at (bxCond form raw) (now (buf .exit)) r ⌝ }
@@ -79,19 +89,8 @@ pub fn fmt_branch(buf: &mut [u8], at: usize, pc: u32, raw: u32) -> usize
     let target = branch_target(pc, raw);
     let at = put_byte(buf, at, b'b');
     let at = put_mark(buf, at, raw, 24, b'l');
-    let at = put_cond_at(buf, at, raw, 28, 32);
-    let at = put_byte(buf, at, b'\t');
+    let at = put_cond_tab(buf, at, raw);
     put_0x(buf, at, 1, target)
-}
-
-// S1: the sheet takes Rd from bits 15-12, the bench from 19-16.
-fn put_rd(buf: &mut [u8], at: usize, form: Form, raw: u32) -> usize
-    ensures { λ r. ⌜ Wrote (now (buf .entry)) at (rdText form raw) (now (buf .exit)) r ⌝ }
-{
-    match form {
-        Form::Bench => put_reg_at(buf, at, raw, 16, 20),
-        Form::Sheet => put_reg_at(buf, at, raw, 12, 16),
-    }
 }
 
 // mov and mvn.
@@ -100,8 +99,7 @@ fn fmt_move(buf: &mut [u8], at: usize, form: Form, raw: u32, op: AluOpCode) -> u
 {
     let at = put_opcode(buf, at, op);
     let at = put_mark(buf, at, raw, 20, b's');
-    let at = put_cond_at(buf, at, raw, 28, 32);
-    let at = put_byte(buf, at, b'\t');
+    let at = put_cond_tab(buf, at, raw);
     let at = put_rd(buf, at, form, raw);
     put_text(buf, at, b", ")
 }
@@ -111,10 +109,8 @@ fn fmt_test(buf: &mut [u8], at: usize, raw: u32, op: AluOpCode) -> usize
     ensures { λ r. ⌜ Wrote (now (buf .entry)) at (fmtTest raw op) (now (buf .exit)) r ⌝ }
 {
     let at = put_opcode(buf, at, op);
-    let at = put_cond_at(buf, at, raw, 28, 32);
-    let at = put_byte(buf, at, b'\t');
-    let at = put_reg_at(buf, at, raw, 16, 20);
-    put_text(buf, at, b", ")
+    let at = put_cond_tab(buf, at, raw);
+    put_reg_comma(buf, at, raw, 16, 20)
 }
 
 // The opcodes with three operands.
@@ -123,12 +119,10 @@ fn fmt_three(buf: &mut [u8], at: usize, form: Form, raw: u32, op: AluOpCode) -> 
 {
     let at = put_opcode(buf, at, op);
     let at = put_mark(buf, at, raw, 20, b's');
-    let at = put_cond_at(buf, at, raw, 28, 32);
-    let at = put_byte(buf, at, b'\t');
+    let at = put_cond_tab(buf, at, raw);
     let at = put_rd(buf, at, form, raw);
     let at = put_text(buf, at, b", ");
-    let at = put_reg_at(buf, at, raw, 16, 20);
-    put_text(buf, at, b", ")
+    put_reg_comma(buf, at, raw, 16, 20)
 }
 
 fn is_move(op: AluOpCode) -> bool
@@ -195,10 +189,8 @@ pub fn fmt_ldr_str(buf: &mut [u8], at: usize, form: Form, pc: u32, raw: u32) -> 
     let at = put_either(buf, at, raw, 20, b"ldr", b"str");
     let at = put_mark(buf, at, raw, 22, b'b');
     let at = put_user_mark(buf, at, raw);
-    let at = put_cond_at(buf, at, raw, 28, 32);
-    let at = put_byte(buf, at, b'\t');
-    let at = put_reg_at(buf, at, raw, 12, 16);
-    let at = put_text(buf, at, b", ");
+    let at = put_cond_tab(buf, at, raw);
+    let at = put_reg_comma(buf, at, raw, 12, 16);
     fmt_rn_offset(buf, at, form, pc, raw, offset)
 }
 
@@ -208,8 +200,7 @@ pub fn fmt_ldm_stm(buf: &mut [u8], at: usize, raw: u32) -> usize
     let at = put_either(buf, at, raw, 20, b"ldm", b"stm");
     let at = put_either(buf, at, raw, 23, b"i", b"d");
     let at = put_either(buf, at, raw, 24, b"b", b"a");
-    let at = put_cond_at(buf, at, raw, 28, 32);
-    let at = put_byte(buf, at, b'\t');
+    let at = put_cond_tab(buf, at, raw);
     let at = put_reg_at(buf, at, raw, 16, 20);
     let at = put_mark(buf, at, raw, 21, b'!');
     let at = put_text(buf, at, b", {");
@@ -222,10 +213,8 @@ pub fn fmt_mrs(buf: &mut [u8], at: usize, raw: u32) -> usize
     ensures { λ r. ⌜ Wrote (now (buf .entry)) at (fmtMrs raw) (now (buf .exit)) r ⌝ }
 {
     let at = put_text(buf, at, b"mrs");
-    let at = put_cond_at(buf, at, raw, 28, 32);
-    let at = put_byte(buf, at, b'\t');
-    let at = put_reg_at(buf, at, raw, 12, 16);
-    let at = put_text(buf, at, b", ");
+    let at = put_cond_tab(buf, at, raw);
+    let at = put_reg_comma(buf, at, raw, 12, 16);
     put_either(buf, at, raw, 22, b"SPSR", b"CPSR")
 }
 
@@ -234,40 +223,10 @@ pub fn fmt_msr(buf: &mut [u8], at: usize, raw: u32) -> usize
 {
     let operand = operand2(raw);
     let at = put_text(buf, at, b"msr");
-    let at = put_cond_at(buf, at, raw, 28, 32);
-    let at = put_byte(buf, at, b'\t');
+    let at = put_cond_tab(buf, at, raw);
     let at = put_either(buf, at, raw, 22, b"SPSR", b"CPSR");
     let at = put_text(buf, at, b", ");
     fmt_operand2(buf, at, operand)
-}
-
-fn put_flag(buf: &mut [u8], at: usize, v: u32, n: u32) -> usize
-    ensures { λ r. ⌜ Wrote (now (buf .entry)) at (flagText v n) (now (buf .exit)) r ⌝ }
-{
-    put_either(buf, at, v, n, b"true", b"false")
-}
-
-// The flags of an immediate.
-fn put_flags(buf: &mut [u8], at: usize, v: u32) -> usize
-    ensures { λ r. ⌜ Wrote (now (buf .entry)) at (flags v) (now (buf .exit)) r ⌝ }
-{
-    let at = put_text(buf, at, b"\t; N=");
-    let at = put_flag(buf, at, v, 31);
-    let at = put_text(buf, at, b" Z=");
-    let at = put_flag(buf, at, v, 30);
-    let at = put_text(buf, at, b" C=");
-    let at = put_flag(buf, at, v, 29);
-    let at = put_text(buf, at, b" V=");
-    put_flag(buf, at, v, 28)
-}
-
-fn put_flags_comment(buf: &mut [u8], at: usize, d: Decoded) -> usize
-    ensures { λ r. ⌜ Wrote (now (buf .entry)) at (flagsComment d) (now (buf .exit)) r ⌝ }
-{
-    match d {
-        Decoded::Value(v) => put_flags(buf, at, v),
-        Decoded::Nothing => at,
-    }
 }
 
 pub fn fmt_msr_flags(buf: &mut [u8], at: usize, raw: u32) -> usize
@@ -276,23 +235,11 @@ pub fn fmt_msr_flags(buf: &mut [u8], at: usize, raw: u32) -> usize
     let operand = operand2(raw);
     let decoded = operand.decode_rotated_immediate();
     let at = put_text(buf, at, b"msr");
-    let at = put_cond_at(buf, at, raw, 28, 32);
-    let at = put_byte(buf, at, b'\t');
+    let at = put_cond_tab(buf, at, raw);
     let at = put_either(buf, at, raw, 22, b"SPSR_f", b"CPSR_f");
     let at = put_text(buf, at, b", ");
     let at = fmt_operand2(buf, at, operand);
     put_flags_comment(buf, at, decoded)
-}
-
-// Of mla, the register that is added.
-fn put_added_register(buf: &mut [u8], at: usize, raw: u32) -> usize
-    ensures { λ r. ⌜ Wrote (now (buf .entry)) at (addedRegister raw) (now (buf .exit)) r ⌝ }
-{
-    if bit(raw, 21) {
-        let at = put_text(buf, at, b", ");
-        return put_reg_at(buf, at, raw, 12, 16);
-    }
-    at
 }
 
 pub fn fmt_mul_mla(buf: &mut [u8], at: usize, raw: u32) -> usize
@@ -300,12 +247,9 @@ pub fn fmt_mul_mla(buf: &mut [u8], at: usize, raw: u32) -> usize
 {
     let at = put_either(buf, at, raw, 21, b"mla", b"mul");
     let at = put_mark(buf, at, raw, 20, b's');
-    let at = put_cond_at(buf, at, raw, 28, 32);
-    let at = put_byte(buf, at, b'\t');
-    let at = put_reg_at(buf, at, raw, 16, 20);
-    let at = put_text(buf, at, b", ");
-    let at = put_reg_at(buf, at, raw, 0, 4);
-    let at = put_text(buf, at, b", ");
+    let at = put_cond_tab(buf, at, raw);
+    let at = put_reg_comma(buf, at, raw, 16, 20);
+    let at = put_reg_comma(buf, at, raw, 0, 4);
     let at = put_reg_at(buf, at, raw, 8, 12);
     put_added_register(buf, at, raw)
 }
@@ -316,14 +260,10 @@ pub fn fmt_mull_mlal(buf: &mut [u8], at: usize, raw: u32) -> usize
     let at = put_either(buf, at, raw, 22, b"s", b"u");
     let at = put_either(buf, at, raw, 21, b"mlal", b"mull");
     let at = put_mark(buf, at, raw, 20, b's');
-    let at = put_cond_at(buf, at, raw, 28, 32);
-    let at = put_byte(buf, at, b'\t');
-    let at = put_reg_at(buf, at, raw, 12, 16);
-    let at = put_text(buf, at, b", ");
-    let at = put_reg_at(buf, at, raw, 16, 20);
-    let at = put_text(buf, at, b", ");
-    let at = put_reg_at(buf, at, raw, 0, 4);
-    let at = put_text(buf, at, b", ");
+    let at = put_cond_tab(buf, at, raw);
+    let at = put_reg_comma(buf, at, raw, 12, 16);
+    let at = put_reg_comma(buf, at, raw, 16, 20);
+    let at = put_reg_comma(buf, at, raw, 0, 4);
     put_reg_at(buf, at, raw, 8, 12)
 }
 
@@ -341,10 +281,8 @@ fn fmt_halfword(
     let transfer_type = halfword_data_transfer_type(raw);
     let at = put_either(buf, at, raw, 20, b"ldr", b"str");
     let at = put_halfword_type(buf, at, transfer_type);
-    let at = put_cond_at(buf, at, raw, 28, 32);
-    let at = put_byte(buf, at, b'\t');
-    let at = put_reg_at(buf, at, raw, 12, 16);
-    let at = put_text(buf, at, b", ");
+    let at = put_cond_tab(buf, at, raw);
+    let at = put_reg_comma(buf, at, raw, 12, 16);
     fmt_rn_offset(buf, at, form, pc, raw, offset)
 }
 
@@ -375,10 +313,8 @@ pub fn fmt_swp(buf: &mut [u8], at: usize, raw: u32) -> usize
 {
     let at = put_text(buf, at, b"swp");
     let at = put_mark(buf, at, raw, 22, b'b');
-    let at = put_cond_at(buf, at, raw, 28, 32);
-    let at = put_byte(buf, at, b'\t');
-    let at = put_reg_at(buf, at, raw, 12, 16);
-    let at = put_text(buf, at, b", ");
+    let at = put_cond_tab(buf, at, raw);
+    let at = put_reg_comma(buf, at, raw, 12, 16);
     let at = put_reg_at(buf, at, raw, 0, 4);
     let at = put_text(buf, at, b", [");
     let at = put_reg_at(buf, at, raw, 16, 20);

@@ -7,15 +7,14 @@ use mathlib.Core.Path.{_∙_, _≡_, refl}
 use native.Mathlib.Omega.{arith}
 use Rattle.arm7tdmi.proofs.Names.{reg-back, reg-wordy}
 use Rattle.arm7tdmi.specs.Names.{condText, regString}
-use Rattle.arm7tdmi.specs.Pieces.{condAt, either, ifSet, regAt, registers, setBits}
+use Rattle.lines.specs.Pieces.{condAt, either, ifSet, regAt, registers, setBits}
 use Rattle.arm7tdmi.specs.declared.Form.{Form}
-use Rattle.arm_disass.specs.Line.{fmtLdmStm}
-use Rattle.arm_disass.specs.Print.{lineOf}
+use Rattle.arm_disass.specs.Line.{fmtLdmStm, lineOf}
 use Rattle.arm_lowest.proofs.Found.{Law, exact, fifteen, pieces-read, printed-line}
 use Rattle.arm_lowest.proofs.Heads.{Mnemonic, ldm-reads, ldmBits, ldmStem, pick}
 use Rattle.arm_lowest.proofs.Parts.{flag-back}
 use Rattle.reading.proofs.RegisterList.{behindWord, bits-below, bits-few, bits-sum, list-back, list-first, list-good, list-has, list-spelled}
-use Rattle.arm_lowest.specs.CandidateTransfer.{ldmCand}
+use Rattle.arm_candidate.specs.CandidateTransfer.{ldmCand}
 use Rattle.reading.specs.Parts.{listIn}
 use Rattle.arm_words.proofs.Scheme.{Words}
 use Rattle.arm_words.proofs.Transfer.{LdmFields, ldm-read, ldm-words, ldmWord}
@@ -25,7 +24,7 @@ use Rattle.reading.proofs.Pieces.{Pieces, from-nth, good, has-gaps, piece, spel
 use Rattle.text.proofs.Word.{gap}
 use Rattle.text.specs.Text.{text}
 use Rattle.text.specs.Word.{fromWord, has, isWord, word}
-use Rattle.arm7tdmi.specs.declared.arm.ArmFormat.the-variants as A
+use Rattle.arm.specs.declared.ArmFormat.the-variants as A
 
 -- ---- the line of an assembled word, as pieces
 module _ {c p u s w l rn n : ℕ} (f : LdmFields c p u s w l rn n) (m : Mnemonic 4 (ldmBits p u l) c (ldmStem p u l ++ condText c)) where

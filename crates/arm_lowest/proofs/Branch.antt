@@ -7,18 +7,18 @@ use mathlib.Core.List.{List, [], _++_, _∷_}
 use mathlib.Core.Path.{_∙_, _≡_, ap, refl, sym}
 use native.Mathlib.Omega.{arith}
 use Rattle.arm7tdmi.proofs.Names.{reg-back, reg-wordy}
-use Rattle.arm7tdmi.specs.Arm.{branchTarget}
+use Rattle.arm.specs.Fields.{branchTarget}
 use Rattle.arm7tdmi.specs.Names.{condNames, condText, regString}
-use Rattle.arm7tdmi.specs.Pieces.{condAt, ifSet, regAt}
+use Rattle.lines.specs.Pieces.{condAt, ifSet, regAt}
 use Rattle.arm7tdmi.specs.Signed.{extended, moved}
 use Rattle.arm7tdmi.specs.declared.Form.the-variants.{Bench, Sheet}
 use Rattle.arm7tdmi.specs.declared.Form.{Form}
-use Rattle.arm_disass.specs.Line.{bxCond, fmtBranch, fmtBx, fmtSwi}
-use Rattle.arm_disass.specs.Print.{lineOf, printsCond}
+use Rattle.arm_disass.specs.Line.{bxCond, fmtBranch, fmtBx, fmtSwi, lineOf}
+use Rattle.arm_print.specs.Print.{printsCond}
 use Rattle.arm_lowest.proofs.Found.{HasLine, Law, exact, fifteen, least-found, pieces-read, printed-line}
 use Rattle.arm_lowest.proofs.Heads.{Mnemonic, branch-reads, branchStem, bx-reads, swi-reads}
 use Rattle.arm_lowest.proofs.Parts.{prefixed-back, prefixed-wordy, regroup}
-use Rattle.arm_lowest.specs.CandidateSimple.{branchCand, bxCand, condShown, fieldOf, swiCand}
+use Rattle.arm_candidate.specs.CandidateSimple.{branchCand, bxCand, condShown, fieldOf, swiCand}
 use Rattle.arm_words.proofs.Branch.{BranchFields, BxFields, SwiFields, branch-read, branch-words, branchWord, bx-least, bx-read, bx-words, bxWord, swi-read, swi-words, swiWord}
 use Rattle.arm_words.proofs.Scheme.{Words, bench, shown}
 use Rattle.common.proofs.Tests.{by-test}
@@ -27,7 +27,7 @@ use Rattle.reading.proofs.Pieces.{Pieces, good, last, piece, spell, word-nth}
 use Rattle.text.specs.Digits.{prefixed}
 use Rattle.text.specs.Text.{text}
 use Rattle.text.specs.Word.{isWord}
-use Rattle.arm7tdmi.specs.declared.arm.ArmFormat.the-variants as A
+use Rattle.arm.specs.declared.ArmFormat.the-variants as A
 
 -- ---- b and bl: exact
 abbrev target : ℕ → ℕ → ℕ

@@ -9,17 +9,17 @@ use native.Mathlib.Omega.{arith}
 use Rattle.arm7tdmi.proofs.Names.{reg-back, reg-wordy}
 use Rattle.arm7tdmi.specs.Alu.{aluOpCode}
 use Rattle.arm7tdmi.specs.Names.{condText, regString}
-use Rattle.arm7tdmi.specs.Pieces.{condAt, ifSet, regAt}
+use Rattle.lines.specs.Pieces.{condAt, ifSet, regAt}
 use Rattle.arm7tdmi.specs.declared.Form.the-variants.{Bench, Sheet}
 use Rattle.arm7tdmi.specs.declared.Form.{Form}
-use Rattle.arm_disass.specs.Line.{fmtDataProcessing, fmtMove, fmtOpcode, fmtTest, fmtThree, isMove, opText, rdText}
-use Rattle.arm_disass.specs.Print.{lineOf}
+use Rattle.arm_disass.specs.Line.{fmtDataProcessing, fmtMove, fmtOpcode, fmtTest, fmtThree, isMove, opText, lineOf}
+use Rattle.arm_operand.specs.Operand.{rdText}
 use Rattle.arm_lowest.proofs.Found.{Law, fifteen, least-found, pieces-read, printed-line}
 use Rattle.arm_lowest.proofs.Heads.{Mnemonic, dp-reads, dpBits, dpStem, pick}
 use Rattle.arm_lowest.proofs.Operand.{lead, op-back, op-good, op-least, op-spelled, opLeast, opPieces}
 use Rattle.arm_lowest.proofs.Parts.{regroup}
-use Rattle.arm_lowest.specs.CandidateDataProcessing.{dpCand, dpFrom, isMrs, isThree, operandIn, rdIn, rnIn, showsRd}
-use Rattle.arm_lowest.specs.CandidateOperand.{operandOf}
+use Rattle.arm_candidate.specs.CandidateDataProcessing.{dpCand, dpFrom, isMrs, isThree, operandIn, rdIn, rnIn, showsRd}
+use Rattle.arm_candidate.specs.CandidateOperand.{operandOf}
 use Rattle.reading.specs.Parts.{regIn}
 use Rattle.arm_words.proofs.DataProcessing.{DpFields, dp-least, dp-read, dp-test, dp-words, dpMove, dpRd, dpRn, dpS, dpTest, dpWord, mrsShape, same-test}
 use Rattle.arm_words.proofs.Scheme.{Words, bench, shown-low}
@@ -28,7 +28,7 @@ use Rattle.reading.proofs.Pieces.{Pieces, from-nth, good, piece, spell, word-nt
 use Rattle.text.proofs.Word.{gap}
 use Rattle.text.specs.Text.{text}
 use Rattle.text.specs.Word.{fromWord, isWord}
-use Rattle.arm7tdmi.specs.declared.arm.ArmFormat.the-variants as A
+use Rattle.arm.specs.declared.ArmFormat.the-variants as A
 
 -- ---- opcodes
 dp-move : (op : ℕ) → op < 16 → isMove (aluOpCode op) ≡ dpMove op

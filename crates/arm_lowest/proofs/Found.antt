@@ -7,14 +7,15 @@ use mathlib.Core.List.{List}
 use mathlib.Core.Path.{_∙_, _≡_, ap, sym}
 use native.Mathlib.Nat.{le-of-eq}
 use native.Mathlib.Omega.{arith}
-use Rattle.arm7tdmi.specs.Answer.{line, refused}
-use Rattle.arm7tdmi.specs.Kinds.{armFormat}
+use Rattle.lines.specs.Answer.{line, refused}
+use Rattle.arm.specs.Kinds.{armFormat}
 use Rattle.arm7tdmi.specs.declared.Form.{Form}
-use Rattle.arm7tdmi.specs.declared.arm.ArmFormat.{ArmFormat}
-use Rattle.arm_disass.specs.Print.{answerOf, armLine, isHalfword, lineOf, printsCond}
+use Rattle.arm.specs.declared.ArmFormat.{ArmFormat}
+use Rattle.arm_print.specs.Print.{answerOf, armLine, isHalfword, printsCond}
+use Rattle.arm_disass.specs.Line.{lineOf}
 use Rattle.arm_lowest.proofs.Heads.{Mnemonic}
-use Rattle.arm_lowest.specs.CandidateParts.{Candidate}
-use Rattle.arm_lowest.specs.Heads.{head, headOf}
+use Rattle.arm_candidate.specs.CandidateParts.{Candidate}
+use Rattle.arm_mnemonic.specs.Heads.{head, headOf}
 use Rattle.arm_words.proofs.Scheme.{Least}
 use Rattle.common.proofs.Tests.{by-test}
 use Rattle.common.specs.Bits.{bitRange}

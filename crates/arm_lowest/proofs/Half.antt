@@ -6,22 +6,23 @@ use mathlib.Core.Bool.{Bool, _&&_, false, true, true≢false}
 use mathlib.Core.List.{List, _++_, append-assoc, append-nil}
 use mathlib.Core.Path.{_∙_, _≡_, ap, refl, sym}
 use native.Mathlib.Omega.{arith}
-use Rattle.arm7tdmi.specs.Arm.{addedOf, halfwordType, ldrStrHsImmOffset, ldrStrHsRegOffset}
+use Rattle.arm.specs.Fields.{addedOf, halfwordType, ldrStrHsImmOffset, ldrStrHsRegOffset}
 use Rattle.arm7tdmi.specs.Names.{condText, regString}
-use Rattle.arm7tdmi.specs.Pieces.{condAt, either, regAt}
+use Rattle.lines.specs.Pieces.{condAt, either, regAt}
 use Rattle.arm7tdmi.specs.declared.Form.{Form}
 use Rattle.arm7tdmi.specs.declared.alu.BarrelShifterValue.{BarrelShifterValue}
 use Rattle.arm7tdmi.specs.declared.alu.ShiftedRegister.{ShiftedRegister}
 use Rattle.arm7tdmi.specs.declared.alu.Sign.{Sign}
-use Rattle.arm_disass.specs.Line.{byAmount, fmtHalfword, fmtLdrStrHsImmOffset, fmtLdrStrHsRegOffset, fmtRnOffset, shiftBy, shiftedRegister}
-use Rattle.arm_disass.specs.Print.{isHalfword, lineOf, printsCond}
+use Rattle.arm_operand.specs.Operand.{byAmount, fmtRnOffset, shiftBy, shiftedRegister}
+use Rattle.arm_disass.specs.Line.{fmtHalfword, fmtLdrStrHsImmOffset, fmtLdrStrHsRegOffset, lineOf}
+use Rattle.arm_print.specs.Print.{isHalfword, printsCond}
 use Rattle.arm_lowest.proofs.Found.{Law, fifteen, least-found, pieces-read, printed-line}
 use Rattle.arm_lowest.proofs.Heads.{half-reads, halfBits, halfStem}
 use Rattle.arm_lowest.proofs.Offset.{number-added, number-same, number-says, number-size, number-spelled, offset, offset-seen, offsetLead, register-added, register-named, register-says, register-spelled, sep, transfer-base, transfer-good, transferPieces}
 use Rattle.arm_lowest.proofs.Operand.{shift-alone, shiftPieces}
 use Rattle.arm_lowest.proofs.Parts.{flag-back}
 use Rattle.reading.specs.Parts.{flag}
-use Rattle.arm_lowest.specs.CandidateTransfer.{asFlags, baseIn, halfCand, halfOffset}
+use Rattle.arm_candidate.specs.CandidateTransfer.{asFlags, baseIn, halfCand, halfOffset}
 use Rattle.arm_words.proofs.Halfword.{HalfFields, flagsShape, half-least, half-read, half-words, halfKind, halfU, halfW, halfWord}
 use Rattle.arm_words.proofs.Scheme.{Words, shown-low}
 use Rattle.common.proofs.Tests.{by-test}

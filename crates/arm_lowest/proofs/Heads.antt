@@ -4,22 +4,21 @@ use borrow.Author.Tests.{eqb-true, ltb-true, ne-eqb}
 use lib.Dec.{eqb, ltb}
 use lib.ListN.{getD, set}
 use mathlib.Core.Bool.{Bool, _&&_, _||_, cond, false, not, true}
-use mathlib.Core.List.{List, [], _++_, map}
+use mathlib.Core.List.{List, [], _++_}
 use mathlib.Core.Path.{_≡_, refl}
 use Rattle.arm7tdmi.specs.Alu.{aluOpCode}
-use Rattle.arm7tdmi.specs.Arm.{halfwordTypes}
+use Rattle.arm.specs.Fields.{halfwordTypes}
 use Rattle.arm7tdmi.specs.Names.{condNamed, condNames, condText}
 use Rattle.arm_disass.specs.Line.{halfwordText, opText}
-use Rattle.arm_lowest.specs.Heads.{condOf, head, headOf, stemAt, stemNames, stemOf, stems}
+use Rattle.arm_mnemonic.specs.Heads.{condOf, head, headOf, stemAt, stemNames, stemOf, stems}
 use Rattle.arm_words.proofs.DataProcessing.{dpTest}
 use Rattle.common.proofs.Lists.{same-eq}
 use Rattle.common.proofs.Tests.{and-left, and-right, at, every}
-use Rattle.common.specs.Lists.{find, first, place, same}
-use Rattle.text.proofs.Packed.{Bytes, find-packed}
+use Rattle.common.specs.Lists.{first, same}
 use Rattle.text.proofs.Word.{wordy}
 use Rattle.text.specs.Text.{text}
-use Rattle.text.specs.Word.{isWord, packed}
-use Rattle.arm7tdmi.specs.declared.arm.ArmHalfwordTransferType.the-variants as Half
+use Rattle.text.specs.Word.{isWord}
+use Rattle.arm.specs.declared.ArmHalfwordTransferType.the-variants as Half
 
 -- ---- tests of all numbers below bounds
 pub at₂ : (f : ℕ → ℕ → Bool) (m n : ℕ) → every (λ a. every (f a) n) m ≡ true → (a b : ℕ) → a < m → b < n → f a b ≡ true
@@ -75,11 +74,6 @@ module _ (k : ℕ) (t : List ℕ) (f b c : ℕ) (g : c < 15) (e : isAt k t f b �
 pub none-says : headOf [] ≡ head 12 0 14
 unfolding stems stemNames headOf stemOf condOf condNamed condNames first same
 none-says = refl
-
--- what the code looks up: the stems, packed
-pub stem-found : (l : List ℕ) → Bytes l → find (packed l) (map packed stemNames) ≡ place stemNames l
-unfolding stemNames stems
-stem-found l h = find-packed stemNames l refl h
 
 -- ---- the stems of the families, from the bits that they show
 -- a text where a bit is set, and another or nothing where it is clear

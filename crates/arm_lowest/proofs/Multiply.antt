@@ -7,14 +7,14 @@ use mathlib.Core.Path.{_∙_, _≡_, ap, refl, sym}
 use native.Mathlib.Omega.{arith}
 use Rattle.arm7tdmi.proofs.Names.{reg-back, reg-wordy}
 use Rattle.arm7tdmi.specs.Names.{condText, regString}
-use Rattle.arm7tdmi.specs.Pieces.{condAt, either, ifSet, regAt}
+use Rattle.lines.specs.Pieces.{condAt, either, ifSet, regAt}
 use Rattle.arm7tdmi.specs.declared.Form.{Form}
-use Rattle.arm_disass.specs.Line.{addedRegister, fmtMulMla, fmtMullMlal, fmtSwp}
-use Rattle.arm_disass.specs.Print.{lineOf}
+use Rattle.arm_operand.specs.Operand.{addedRegister}
+use Rattle.arm_disass.specs.Line.{fmtMulMla, fmtMullMlal, fmtSwp, lineOf}
 use Rattle.arm_lowest.proofs.Found.{Law, exact, fifteen, least-found, pieces-read, printed-line}
 use Rattle.arm_lowest.proofs.Heads.{Mnemonic, mul-reads, mulBits, mulStem, mull-reads, mullBits, mullStem, pick, swp-reads, swpStem}
 use Rattle.arm_lowest.proofs.Parts.{regroup}
-use Rattle.arm_lowest.specs.CandidateSimple.{mulCand, mullCand, swpCand}
+use Rattle.arm_candidate.specs.CandidateSimple.{mulCand, mullCand, swpCand}
 use Rattle.arm_words.proofs.Multiply.{MulFields, MullFields, SwpFields, mul-least, mul-read, mul-words, mulWord, mull-read, mull-words, mullWord, swp-read, swp-words, swpWord}
 use Rattle.arm_words.proofs.Scheme.{Words, shown}
 use Rattle.common.proofs.Tests.{by-test}
@@ -22,7 +22,7 @@ use Rattle.common.specs.Bits.{bit, bitRange}
 use Rattle.reading.proofs.Pieces.{Pieces, good, last, none, piece, spell, word-nth}
 use Rattle.text.specs.Text.{text}
 use Rattle.text.specs.Word.{isWord}
-use Rattle.arm7tdmi.specs.declared.arm.ArmFormat.the-variants as A
+use Rattle.arm.specs.declared.ArmFormat.the-variants as A
 
 -- ---- mull and mlal: exact
 module _ {c u a s hi lo rs rm : ℕ} (f : MullFields c u a s hi lo rs rm) where

@@ -7,20 +7,20 @@ use mathlib.Core.List.{List, [], _++_, append-assoc, append-nil}
 use mathlib.Core.Path.{_∙_, _≡_, ap, refl, sym}
 use native.Mathlib.Omega.{arith}
 use Rattle.arm7tdmi.proofs.Names.{reg-back, reg-letter, reg-wordy}
-use Rattle.arm7tdmi.specs.Arm.{addedOf, pcRelative, signedOffset}
+use Rattle.arm.specs.Fields.{addedOf, pcRelative, signedOffset}
 use Rattle.arm7tdmi.specs.Names.{regString}
-use Rattle.arm7tdmi.specs.Pieces.{ifSet, regAt}
+use Rattle.lines.specs.Pieces.{ifSet, regAt}
 use Rattle.arm7tdmi.specs.declared.Form.the-variants.{Bench, Sheet}
 use Rattle.arm7tdmi.specs.declared.Form.{Form}
 use Rattle.arm7tdmi.specs.declared.alu.BarrelShifterValue.{BarrelShifterValue}
 use Rattle.arm7tdmi.specs.declared.alu.ShiftedRegister.{ShiftedRegister}
-use Rattle.arm_disass.specs.Line.{benchOffset, comment, commented, fmtRnOffset, immediateOffset, indexed, magnitude, offsetText, sheetOffset, shiftedRegister, signText, signedRegister, valueComment}
+use Rattle.arm_operand.specs.Operand.{benchOffset, comment, commented, fmtRnOffset, immediateOffset, indexed, magnitude, offsetText, sheetOffset, shiftedRegister, signText, signedRegister, valueComment}
 use Rattle.arm_lowest.proofs.Heads.{pick}
 use Rattle.arm_lowest.proofs.Operand.{shift-first, shift-good, shiftPieces, shifted-back}
 use Rattle.arm_lowest.proofs.Parts.{prefixed-wordy}
-use Rattle.arm_lowest.specs.CandidateOperand.{isNumber, shiftedOf}
+use Rattle.arm_candidate.specs.CandidateOperand.{isNumber, shiftedOf}
 use Rattle.reading.specs.Parts.{flag, regIn}
-use Rattle.arm_lowest.specs.CandidateTransfer.{addedIn, baseIn, indexedIn, isAdded, registerAdded, sizeIn, sizeOf}
+use Rattle.arm_candidate.specs.CandidateTransfer.{addedIn, baseIn, indexedIn, isAdded, registerAdded, sizeIn, sizeOf}
 use Rattle.arm_words.proofs.Operand.{shiftLeast}
 use Rattle.arm_words.proofs.Scheme.{bench}
 use Rattle.arm_words.proofs.Transfer.{unsigned}

@@ -4,30 +4,29 @@ use borrow.Author.Tests.{eq-eqb, eqb-false, eqb-true, ne-eqb}
 use lib.Dec.{eqb}
 use lib.ListN.{getD, length}
 use mathlib.Core.Bool.{Bool, cond, false, true}
-use mathlib.Core.List.{List, [], _++_, _∷_, append-nil, map}
+use mathlib.Core.List.{List, [], _++_, _∷_, append-nil}
 use mathlib.Core.Path.{_∙_, _≡_, ap, refl, sym}
 use native.Mathlib.Omega.{arith}
 use Rattle.arm7tdmi.proofs.Names.{reg-back, reg-letter, reg-wordy}
 use Rattle.arm7tdmi.specs.Alu.{barrelShiftOpCode, decodeRotatedImmediate}
-use Rattle.arm7tdmi.specs.Arm.{bsOp, operand2, shiftRegBy}
+use Rattle.arm.specs.Fields.{bsOp, operand2, shiftRegBy}
 use Rattle.arm7tdmi.specs.Names.{regString}
 use Rattle.arm7tdmi.specs.declared.alu.Sign.{Sign}
-use Rattle.arm_disass.specs.Line.{byAmount, byRegister, decodedText, fmtOperand2, immediate, isLsl0, shiftBy, shiftText, shiftedRegister}
+use Rattle.arm_operand.specs.Operand.{byAmount, byRegister, decodedText, fmtOperand2, immediate, isLsl0, shiftBy, shiftText, shiftedRegister}
 use Rattle.arm_lowest.proofs.Parts.{prefixed-wordy, regroup}
 use Rattle.arm_lowest.proofs.Rotation.{immediate-least, immediate-lt, immediateAt}
-use Rattle.arm_lowest.specs.CandidateOperand.{immediateOf, isNumber, operandOf, shiftNamed, shiftNames, shiftedOf}
+use Rattle.arm_candidate.specs.CandidateOperand.{immediateOf, isNumber, operandOf, shiftNamed, shiftNames, shiftedOf}
 use Rattle.arm_words.proofs.Operand.{ShiftLeast, operand-read, shift-least, shiftLeast}
 use Rattle.common.proofs.Lists.{agreed}
 use Rattle.common.proofs.Tests.{at, at-not, by-test}
 use Rattle.common.specs.Bits.{bit, bitRange}
-use Rattle.common.specs.Lists.{find, first, same}
+use Rattle.common.specs.Lists.{first, same}
 use Rattle.reading.proofs.Pieces.{Pieces, first-word, firstOf, good, last, piece, spell, word-nth}
 use Rattle.text.proofs.Digits.{dec-back}
-use Rattle.text.proofs.Packed.{Bytes, find-packed}
 use Rattle.text.proofs.Word.{dec-first, dec-wordy, wordy}
 use Rattle.text.specs.Digits.{dec, prefixed}
 use Rattle.text.specs.Text.{text}
-use Rattle.text.specs.Word.{isWord, packed, word}
+use Rattle.text.specs.Word.{isWord, word}
 use Rattle.arm7tdmi.specs.declared.alu.Sign.the-variants as S
 
 -- ---- shifts
@@ -45,11 +44,6 @@ shift-wordy = at (λ k. wordy (shiftName k)) 4 refl
 shift-back : (k : ℕ) → k < 4 → shiftNamed (shiftName k) ≡ k
 unfolding shiftNamed shiftNames first same
 shift-back k h = eqb-true _ _ (at (λ k. eqb (shiftNamed (shiftName k)) k) 4 refl k h)
-
--- what the code looks up: the names, packed
-pub shift-found : (l : List ℕ) → Bytes l → find (packed l) (map packed shiftNames) ≡ shiftNamed l
-unfolding shiftNamed shiftNames
-shift-found l h = find-packed shiftNames l refl h
 
 shift-some : (k : ℕ) → k < 4 → eqb (length (shiftName k)) 0 ≡ false
 unfolding shiftNames

@@ -6,11 +6,11 @@ use mathlib.Core.List.{List}
 use mathlib.Core.Path.{_∙_, _≡_, refl}
 use native.Mathlib.Nat.{lt-of-le-of-lt, mod-eq-of-lt, mod-lt}
 use native.Mathlib.Omega.{arith}
-use Rattle.arm7tdmi.specs.Answer.{line}
-use Rattle.arm7tdmi.specs.Kinds.{armFormat}
+use Rattle.lines.specs.Answer.{line}
+use Rattle.arm.specs.Kinds.{armFormat}
 use Rattle.arm7tdmi.specs.declared.Form.{Form}
-use Rattle.arm7tdmi.specs.declared.arm.ArmFormat.{ArmFormat}
-use Rattle.arm_disass.specs.Print.{armLine}
+use Rattle.arm.specs.declared.ArmFormat.{ArmFormat}
+use Rattle.arm_print.specs.Print.{armLine}
 use Rattle.arm_lowest.proofs.Block.{ldm-law}
 use Rattle.arm_lowest.proofs.Branch.{branch-law, bx-law, swi-law}
 use Rattle.arm_lowest.proofs.DataProcessing.{dp-law}
@@ -20,14 +20,14 @@ use Rattle.arm_lowest.proofs.Multiply.{mul-law, mull-law, swp-law}
 use Rattle.arm_lowest.proofs.Single.{ldr-law}
 use Rattle.arm_lowest.proofs.Status.{flags-law, mrs-law, msr-law}
 use Rattle.arm_lowest.proofs.Undefined.{undefined-law}
-use Rattle.arm_lowest.specs.Candidate.{byHead, candidate, families}
-use Rattle.arm_lowest.specs.CandidateSimple.{undefinedCand}
-use Rattle.arm_lowest.specs.Heads.{headOf}
+use Rattle.arm_candidate.specs.Candidate.{byHead, candidate, families}
+use Rattle.arm_candidate.specs.CandidateSimple.{undefinedCand}
+use Rattle.arm_mnemonic.specs.Heads.{headOf}
 use Rattle.arm_lowest.specs.Read.{readArm}
 use Rattle.reading.proofs.Demand.{candidate-reads}
 use Rattle.reading.specs.Read.{isLine}
 use Rattle.text.specs.Word.{word}
-use Rattle.arm7tdmi.specs.declared.arm.ArmFormat.the-variants as A
+use Rattle.arm.specs.declared.ArmFormat.the-variants as A
 
 -- the candidate of a family that the head names, and whose candidate is found
 module _ (form : Form) (pc w : ℕ) (h : w < 2 ^ 32) (t : List ℕ) where

@@ -9,7 +9,7 @@ use native.Mathlib.Nat.{mod-eq-of-lt}
 use native.Mathlib.Omega.{arith}
 use Rattle.arm7tdmi.proofs.Rotate.{parts, turn-back, turned-lt}
 use Rattle.arm7tdmi.specs.Alu.{rotateRight}
-use Rattle.arm_lowest.specs.CandidateOperand.{immediateOf, rotationOf, turnedBack}
+use Rattle.arm_candidate.specs.CandidateOperand.{immediateOf, rotationOf, turnedBack}
 use Rattle.common.proofs.Lowest.{lowest-at-most, lowest-passes}
 use Rattle.common.proofs.Tests.{by-test}
 use Rattle.common.specs.Bits.{bitRange}

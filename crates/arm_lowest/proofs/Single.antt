@@ -6,21 +6,21 @@ use mathlib.Core.Bool.{_&&_, cond, false, not, true}
 use mathlib.Core.List.{_++_, append-assoc}
 use mathlib.Core.Path.{_∙_, _≡_, ap, refl, sym}
 use native.Mathlib.Omega.{arith}
-use Rattle.arm7tdmi.specs.Arm.{addedOf, bsOp, ldrStrOffset, shiftRegBy, signedOffset}
-use Rattle.arm7tdmi.specs.Kinds.{armFormat}
+use Rattle.arm.specs.Fields.{addedOf, bsOp, ldrStrOffset, shiftRegBy, signedOffset}
+use Rattle.arm.specs.Kinds.{armFormat}
 use Rattle.arm7tdmi.specs.Names.{condText, regString}
-use Rattle.arm7tdmi.specs.Pieces.{condAt, either, ifSet, regAt}
+use Rattle.lines.specs.Pieces.{condAt, either, ifSet, regAt}
 use Rattle.arm7tdmi.specs.declared.Form.{Form}
 use Rattle.arm7tdmi.specs.declared.alu.ShiftedRegister.{ShiftedRegister}
-use Rattle.arm_disass.specs.Line.{fmtLdrStr, fmtRnOffset, userMark}
-use Rattle.arm_disass.specs.Print.{lineOf}
+use Rattle.arm_disass.specs.Line.{fmtLdrStr, userMark, lineOf}
+use Rattle.arm_operand.specs.Operand.{fmtRnOffset}
 use Rattle.arm_lowest.proofs.Found.{Law, fifteen, least-found, pieces-read, printed-line}
 use Rattle.arm_lowest.proofs.Heads.{ldr-reads, ldrBits, ldrStem}
 use Rattle.arm_lowest.proofs.Offset.{number-added, number-same, number-says, number-size, number-spelled, offset, offset-seen, offsetLead, register-added, register-says, register-shifted, register-spelled, sep, shownU, transfer-base, transfer-good, transferPieces}
 use Rattle.arm_lowest.proofs.Operand.{shift-same, shift-spelled}
 use Rattle.arm_lowest.proofs.Parts.{flag-back}
 use Rattle.reading.specs.Parts.{flag}
-use Rattle.arm_lowest.specs.CandidateTransfer.{ldrCand, ldrOffset}
+use Rattle.arm_candidate.specs.CandidateTransfer.{ldrCand, ldrOffset}
 use Rattle.arm_words.proofs.Operand.{shift-least, shiftLeast}
 use Rattle.arm_words.proofs.Scheme.{Least, Words}
 use Rattle.arm_words.proofs.Transfer.{LdrFields, ldr-least, ldr-read, ldr-words, ldrU, ldrWord, unsigned}
@@ -30,7 +30,7 @@ use Rattle.reading.proofs.Pieces.{Pieces, spell}
 use Rattle.text.proofs.Word.{wordy}
 use Rattle.text.specs.Text.{text}
 use Rattle.arm7tdmi.specs.declared.alu.BarrelShifterValue.the-variants as Value
-use Rattle.arm7tdmi.specs.declared.arm.ArmFormat.the-variants as A
+use Rattle.arm.specs.declared.ArmFormat.the-variants as A
 
 -- the line of an assembled word, as pieces
 abbrev ldrPieces : Form → ℕ → ℕ → ℕ → ℕ → ℕ → ℕ → ℕ → ℕ → ℕ → ℕ → ℕ → Pieces

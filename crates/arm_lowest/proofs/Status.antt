@@ -9,20 +9,20 @@ use mathlib.Core.Path.{_∙_, _≡_, ap, refl, sym}
 use native.Mathlib.Omega.{arith}
 use Rattle.arm7tdmi.proofs.Names.{reg-back, reg-wordy}
 use Rattle.arm7tdmi.specs.Alu.{decodeRotatedImmediate}
-use Rattle.arm7tdmi.specs.Arm.{operand2}
+use Rattle.arm.specs.Fields.{operand2}
 use Rattle.arm7tdmi.specs.Names.{condText, regString}
-use Rattle.arm7tdmi.specs.Pieces.{condAt, either, regAt}
+use Rattle.lines.specs.Pieces.{condAt, either, regAt}
 use Rattle.arm7tdmi.specs.declared.Form.{Form}
-use Rattle.arm_disass.specs.Line.{flagText, flags, flagsComment, fmtMrs, fmtMsr, fmtMsrFlags, fmtOperand2}
-use Rattle.arm_disass.specs.Print.{lineOf}
+use Rattle.arm_operand.specs.Operand.{flagText, flags, flagsComment, fmtOperand2}
+use Rattle.arm_disass.specs.Line.{fmtMrs, fmtMsr, fmtMsrFlags, lineOf}
 use Rattle.arm_lowest.proofs.Found.{Law, exact, fifteen, least-found, pieces-read, printed-line}
 use Rattle.arm_lowest.proofs.Heads.{mrs-reads, msr-reads, pick}
 use Rattle.arm_lowest.proofs.Operand.{lead, number-back, op-least, op-spelled, opLeast, register-back, shift-alone, shift-good, shift-same, shiftPieces}
 use Rattle.arm_lowest.proofs.Parts.{prefixed-wordy, regroup}
 use Rattle.arm_lowest.proofs.Rotation.{immediate-least, immediateAt}
-use Rattle.arm_lowest.specs.CandidateOperand.{operandOf}
+use Rattle.arm_candidate.specs.CandidateOperand.{operandOf}
 use Rattle.reading.specs.Parts.{flag}
-use Rattle.arm_lowest.specs.CandidateSimple.{mrsCand, msrCand}
+use Rattle.arm_candidate.specs.CandidateSimple.{mrsCand, msrCand}
 use Rattle.arm_words.proofs.Operand.{operand-read, shift-least}
 use Rattle.arm_words.proofs.Scheme.{Words}
 use Rattle.arm_words.proofs.Status.{FlagsFields, MrsFields, MsrFields, flags-least, flags-read, flags-words, flagsWord, mrs-read, mrs-words, mrsWord, msr-read, msr-words, msrWord}
@@ -33,7 +33,7 @@ use Rattle.text.proofs.Word.{dec-wordy, wordy}
 use Rattle.text.specs.Digits.{dec, prefixed}
 use Rattle.text.specs.Text.{text}
 use Rattle.text.specs.Word.{behind, has, isWord}
-use Rattle.arm7tdmi.specs.declared.arm.ArmFormat.the-variants as A
+use Rattle.arm.specs.declared.ArmFormat.the-variants as A
 
 -- ---- mrs: exact
 abbrev psr : ℕ → List ℕ

@@ -3,19 +3,19 @@ use Prim.Native.Nat.{ℕ}
 use mathlib.Core.Bool.{true≢false}
 use mathlib.Core.List.{[]}
 use mathlib.Core.Path.{_∙_, _≡_, ap, refl, sym}
-use Rattle.arm7tdmi.specs.Kinds.{undefinedBits}
+use Rattle.arm.specs.Kinds.{undefinedBits}
 use Rattle.arm7tdmi.specs.declared.Form.{Form}
-use Rattle.arm_disass.specs.Print.{lineOf}
+use Rattle.arm_disass.specs.Line.{lineOf}
 use Rattle.arm_lowest.proofs.Found.{Law, least-found, printed-line}
 use Rattle.arm_lowest.proofs.Heads.{none-says}
-use Rattle.arm_lowest.specs.CandidateSimple.{undefinedCand}
-use Rattle.arm_lowest.specs.Heads.{headOf}
+use Rattle.arm_candidate.specs.CandidateSimple.{undefinedCand}
+use Rattle.arm_mnemonic.specs.Heads.{headOf}
 use Rattle.arm_words.proofs.Scheme.{Least, Words}
 use Rattle.arm_words.proofs.Undefined.{undefined-kind, undefined-least}
 use Rattle.common.specs.Lists.{first}
 use Rattle.text.specs.Text.{text}
 use Rattle.text.specs.Word.{isWord, word}
-use Rattle.arm7tdmi.specs.declared.arm.ArmFormat.the-variants as A
+use Rattle.arm.specs.declared.ArmFormat.the-variants as A
 
 no-word : word (text "<Undefined>") ≡ []
 unfolding word isWord first

@@ -1,3 +1,1 @@
-pub mod Stems
-pub mod Dispatch
 pub mod Lines

@@ -8,14 +8,14 @@ use mathlib.Core.Bool.{_&&_, false, true}
 use mathlib.Core.List.{List, _++_}
 use mathlib.Core.Path.{_∙_, _≡_, ap, refl, sym}
 use native.Mathlib.Omega.{arith}
-use Rattle.arm7tdmi.specs.Answer.{Answer, line, printed, refused}
-use Rattle.arm7tdmi.specs.Kinds.{armFormat}
+use Rattle.lines.specs.Answer.{Answer, line, printed, refused}
+use Rattle.arm.specs.Kinds.{armFormat}
 use Rattle.arm7tdmi.specs.declared.Form.{Form}
-use Rattle.arm7tdmi.specs.declared.Printed.{Printed}
+use Rattle.lines.specs.declared.Printed.{Printed}
 use Rattle.arm_disass.proofs.Lengths.{line-within}
-use Rattle.arm_disass.specs.Print.{answerOf, armLine, isHalfword, printsCond}
+use Rattle.arm_print.specs.Print.{answerOf, armLine, isHalfword, printsCond}
 use Rattle.arm_lowest.proofs.Read.{candidate-lt, read-arm}
-use Rattle.arm_lowest.specs.Candidate.{candidate}
+use Rattle.arm_candidate.specs.Candidate.{candidate}
 use Rattle.arm_read.specs.Answer.{readAnswer}
 use Rattle.arm_read.specs.declared.ArmRead.the-variants.{Nothing, Word}
 use Rattle.common.proofs.Lists.{other}

@@ -3,12 +3,12 @@ use Prim.Native.Nat.{_%_, _*_, _+_, _<_, _^_, ℕ}
 use mathlib.Core.Bool.{not}
 use mathlib.Core.Path.{_≡_}
 use native.Mathlib.Omega.{arith}
-use Rattle.arm7tdmi.specs.Kinds.{armFormat, armRows}
+use Rattle.arm.specs.Kinds.{armFormat, armRows}
 use Rattle.arm7tdmi.specs.declared.Form.{Form}
 use Rattle.arm_words.proofs.Scheme.{Least, Of, Words, bench, by-digits, hex, kind-of, made, only, shown, shown-low, words}
 use Rattle.common.specs.Bits.{bitRange}
 use Rattle.words.proofs.Match.{num}
-use Rattle.arm7tdmi.specs.declared.arm.ArmFormat.the-variants as A
+use Rattle.arm.specs.declared.ArmFormat.the-variants as A
 
 -- ---- bx
 abbrev pub bxWord : ℕ → ℕ → ℕ

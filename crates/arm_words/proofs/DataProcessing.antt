@@ -7,7 +7,7 @@ use mathlib.Core.List.{List}
 use mathlib.Core.Path.{_∙_, _≡_, ap, refl, sym}
 use native.Mathlib.Omega.{arith}
 use Rattle.arm7tdmi.specs.Alu.{aluOpCode, isSettingFlags}
-use Rattle.arm7tdmi.specs.Kinds.{armFormat, armRows}
+use Rattle.arm.specs.Kinds.{armFormat, armRows}
 use Rattle.arm7tdmi.specs.declared.Form.{Form}
 use Rattle.arm_words.proofs.Branch.{bxWord}
 use Rattle.arm_words.proofs.Operand.{ShiftLeast}
@@ -15,7 +15,7 @@ use Rattle.arm_words.proofs.Scheme.{Least, Of, Words, bench, differ, he
 use Rattle.arm_words.proofs.Status.{MrsFields, flagsWord, mrs-kind, mrsWord, msrWord}
 use Rattle.common.proofs.Tests.{at, by-test}
 use Rattle.common.specs.Bits.{bit, bitRange}
-use Rattle.arm7tdmi.specs.declared.arm.ArmFormat.the-variants as A
+use Rattle.arm.specs.declared.ArmFormat.the-variants as A
 
 abbrev pub dpWord : ℕ → ℕ → ℕ → ℕ → ℕ → ℕ → ℕ → ℕ
 dpWord c i op s rn rd n = c * 2 ^ 28 + i * 2 ^ 25 + op * 2 ^ 21 + s * 2 ^ 20 + rn * 2 ^ 16 + rd * 2 ^ 12 + n

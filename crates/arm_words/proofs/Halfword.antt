@@ -6,15 +6,15 @@ use mathlib.Core.Bool.{Bool, _&&_, cond, true, true≢false}
 use mathlib.Core.List.{List}
 use mathlib.Core.Path.{_∙_, _≡_, ap, refl, sym}
 use native.Mathlib.Omega.{arith}
-use Rattle.arm7tdmi.specs.Kinds.{armFormat, armRows}
+use Rattle.arm.specs.Kinds.{armFormat, armRows}
 use Rattle.arm7tdmi.specs.declared.Form.{Form}
-use Rattle.arm7tdmi.specs.declared.arm.ArmFormat.{ArmFormat}
+use Rattle.arm.specs.declared.ArmFormat.{ArmFormat}
 use Rattle.arm_words.proofs.Scheme.{Least, Of, Words, differ, hex, kind-of, made, nibble, only, shown, shown-low, words}
 use Rattle.arm_words.proofs.Status.{FlagsFields, flags-kind, flagsWord}
 use Rattle.arm_words.proofs.Transfer.{unsigned}
 use Rattle.common.proofs.Tests.{by-test}
 use Rattle.common.specs.Bits.{bitRange}
-use Rattle.arm7tdmi.specs.declared.arm.ArmFormat.the-variants as A
+use Rattle.arm.specs.declared.ArmFormat.the-variants as A
 
 -- i is bit 22: by a number, hi and lo its digits, or by the register lo; k is the type, bits 6-5
 abbrev pub halfWord : ℕ → ℕ → ℕ → ℕ → ℕ → ℕ → ℕ → ℕ → ℕ → ℕ → ℕ → ℕ

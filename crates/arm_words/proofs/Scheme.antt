@@ -8,15 +8,15 @@ use mathlib.Core.Logic.{_⊎_, ⊎-elim}
 use mathlib.Core.Path.{_∙_, _≡_, ap, refl, subst, sym}
 use native.Mathlib.Nat.{div-div-eq-div-mul}
 use native.Mathlib.Omega.{arith}
-use Rattle.arm7tdmi.specs.Kinds.{armFormat, armNumber, armRowAt, armRows}
+use Rattle.arm.specs.Kinds.{armFormat, armNumber, armRowAt, armRows}
 use Rattle.arm7tdmi.specs.declared.Form.{Form}
 use Rattle.arm7tdmi.specs.declared.Form.the-variants.{Bench, Sheet}
-use Rattle.arm7tdmi.specs.declared.arm.ArmFormat.{ArmFormat}
-use Rattle.arm7tdmi.specs.declared.arm.ArmRow.{ArmRow}
+use Rattle.arm.specs.declared.ArmFormat.{ArmFormat}
+use Rattle.arm.specs.declared.ArmRow.{ArmRow}
 use Rattle.common.proofs.Tests.{at, by-test}
 use Rattle.words.proofs.Digits.{Digits, at-row, digits, num-digits, says, says-met}
 use Rattle.words.proofs.Match.{Met, Misses, Says, SaysOr, num, within}
-use Rattle.arm7tdmi.specs.declared.arm.ArmFormat.the-variants as A
+use Rattle.arm.specs.declared.ArmFormat.the-variants as A
 
 -- ---- words by their digits
 -- eight digits, highest first, as a word is written
@@ -47,21 +47,21 @@ nibble x y z t h =
 
 -- ---- the rows of a form
 abbrev mask : ArmRow → ℕ
-mask r = r .0
+mask r = r .mask
 
 abbrev value : ArmRow → ℕ
-value r = r .1
+value r = r .value
 
 abbrev kind : ArmRow → ArmFormat
-kind r = r .2
+kind r = r .kind
 
 -- what row n says of digits
 abbrev pub At : ℕ → List ℕ → Form → Type 0
-At n ds form = Met ds (armRowAt form n .0) (armRowAt form n .1)
+At n ds form = Met ds (armRowAt form n .mask) (armRowAt form n .value)
 
 -- the value of row n is within its mask
 abbrev pub Within : ℕ → List ℕ → Form → Type 0
-Within n ds form = T (within ds (armRowAt form n .0) (armRowAt form n .1))
+Within n ds form = T (within ds (armRowAt form n .mask) (armRowAt form n .value))
 
 -- digits meet row n, and no row before it
 pub record Meets (n : ℕ) (ds : List ℕ) (form : Form) : Type 0 where
@@ -70,14 +70,14 @@ pub record Meets (n : ℕ) (ds : List ℕ) (form : Form) : Type 0 where
   pub fits : Within n ds form
 
 -- a word with such digits has the row's kind
-pub kind-in : (form : Form) (n w : ℕ) (ds : List ℕ) → (n < 15) × (num ds ≡ w) × Digits ds → Meets n ds form → armFormat form w ≡ armRowAt form n .2
+pub kind-in : (form : Form) (n w : ℕ) (ds : List ℕ) → (n < 15) × (num ds ≡ w) × Digits ds → Meets n ds form → armFormat form w ≡ armRowAt form n .kind
 unfolding armRows
 kind-in form n w ds (l, q, h) m =
     ap (armFormat form) (sym q)
-    ∙ at-row mask value kind A.Undefined (record { 0 = 0; 1 = 0; 2 = A.Undefined }) n (armRows form) ds h l (m .before) (m .fits) (m .row)
+    ∙ at-row mask value kind A.Undefined (record { mask = 0; value = 0; kind = A.Undefined }) n (armRows form) ds h l (m .before) (m .fits) (m .row)
 
 -- and in both forms
-pub kind-of : (form : Form) (n w : ℕ) (ds : List ℕ) → (n < 15) × (num ds ≡ w) × Digits ds → Meets n ds Bench → Meets n ds Sheet → armFormat form w ≡ armRowAt form n .2
+pub kind-of : (form : Form) (n w : ℕ) (ds : List ℕ) → (n < 15) × (num ds ≡ w) × Digits ds → Meets n ds Bench → Meets n ds Sheet → armFormat form w ≡ armRowAt form n .kind
 kind-of Bench n w ds h b s = kind-in Bench n w ds h b
 kind-of Sheet n w ds h b s = kind-in Sheet n w ds h s
 
@@ -96,7 +96,7 @@ pub met-says : (form : Form) (k : ArmFormat) (n : ℕ) (ds : List ℕ) → n < 1
 unfolding armRows
 met-says form k n ds l h w a e =
     subst (λ (j : ArmFormat). KindMet form j ds) e
-    (says-met mask value kind A.Undefined armNumber (record { 0 = 0; 1 = 0; 2 = A.Undefined }) n (armRows form) ds h l w a)
+    (says-met mask value kind A.Undefined armNumber (record { mask = 0; value = 0; kind = A.Undefined }) n (armRows form) ds h l w a)
 
 -- where one row alone has the kind
 pub only : {A : Type 0} → A ⊎ ⊥ → A
@@ -112,20 +112,20 @@ Words form k P = (w : ℕ) → w < 2 ^ 32 → Of form k P w
 
 -- P holds of all words of row n's kind, if it does of those whose digits meet the row; bits 23-20 are given one by one
 module _ (form : Form) (n : ℕ) (P : ℕ → Type 0) where
-  pub words : ((ds : List ℕ) → Kind form (armRowAt form n .2) ds → At n ds form) →
+  pub words : ((ds : List ℕ) → Kind form (armRowAt form n .kind) ds → At n ds form) →
       ((d7 d6 x y z t d4 d3 d2 d1 d0 : ℕ) → Nibble x y z t → Digits (hex d7 d6 (x * 8 + y * 4 + z * 2 + t) d4 d3 d2 d1 d0) → At n (hex d7 d6 (x * 8 + y * 4 + z * 2 + t) d4 d3 d2 d1 d0) form →
-      Of form (armRowAt form n .2) P (num (hex d7 d6 (x * 8 + y * 4 + z * 2 + t) d4 d3 d2 d1 d0))) →
-      Words form (armRowAt form n .2) P
+      Of form (armRowAt form n .kind) P (num (hex d7 d6 (x * 8 + y * 4 + z * 2 + t) d4 d3 d2 d1 d0))) →
+      Words form (armRowAt form n .kind) P
   words o f =
-      by-digits (Of form (armRowAt form n .2) P) (λ d7 d6 d5 d4 d3 d2 d1 d0 h.
-      subst (λ (d : ℕ). Digits (hex d7 d6 d d4 d3 d2 d1 d0) → Of form (armRowAt form n .2) P (num (hex d7 d6 d d4 d3 d2 d1 d0))) (four-bits d5 (omega arith))
+      by-digits (Of form (armRowAt form n .kind) P) (λ d7 d6 d5 d4 d3 d2 d1 d0 h.
+      subst (λ (d : ℕ). Digits (hex d7 d6 d d4 d3 d2 d1 d0) → Of form (armRowAt form n .kind) P (num (hex d7 d6 d d4 d3 d2 d1 d0))) (four-bits d5 (omega arith))
       (λ h e.
       let ds : List ℕ = hex d7 d6 (d5 / 8 * 8 + d5 / 4 % 2 * 4 + d5 / 2 % 2 * 2 + d5 % 2) d4 d3 d2 d1 d0 in
-      f d7 d6 (d5 / 8) (d5 / 4 % 2) (d5 / 2 % 2) (d5 % 2) d4 d3 d2 d1 d0 (nibble _ _ _ _ (omega arith)) h (o ds (kind-says form (armRowAt form n .2) ds h e)) e) h)
+      f d7 d6 (d5 / 8) (d5 / 4 % 2) (d5 / 2 % 2) (d5 % 2) d4 d3 d2 d1 d0 (nibble _ _ _ _ (omega arith)) h (o ds (kind-says form (armRowAt form n .kind) ds h e)) e) h)
 
   -- P of a word is P of the same word made from fields
-  pub made : {v w : ℕ} → Of form (armRowAt form n .2) P v → v ≡ w → Of form (armRowAt form n .2) P w
-  made f q = subst (Of form (armRowAt form n .2) P) q f
+  pub made : {v w : ℕ} → Of form (armRowAt form n .kind) P v → v ≡ w → Of form (armRowAt form n .kind) P w
+  made f q = subst (Of form (armRowAt form n .kind) P) q f
 
 -- two kinds are not one
 pub differ : (j k : ArmFormat) → j ≡ k → T (not (eqb (armNumber j) (armNumber k))) → ⊥

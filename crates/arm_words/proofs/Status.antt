@@ -2,11 +2,11 @@
 use Prim.Native.Nat.{_%_, _*_, _+_, _/_, _<_, _^_, _≤_, ℕ}
 use mathlib.Core.Path.{_≡_}
 use native.Mathlib.Omega.{arith}
-use Rattle.arm7tdmi.specs.Kinds.{armFormat, armRows}
+use Rattle.arm.specs.Kinds.{armFormat, armRows}
 use Rattle.arm7tdmi.specs.declared.Form.{Form}
 use Rattle.arm_words.proofs.Scheme.{Least, Of, Words, hex, kind-of, made, only, words}
 use Rattle.common.specs.Bits.{bitRange}
-use Rattle.arm7tdmi.specs.declared.arm.ArmFormat.the-variants as A
+use Rattle.arm.specs.declared.ArmFormat.the-variants as A
 
 -- ---- mrs: all is shown
 abbrev pub mrsWord : ℕ → ℕ → ℕ → ℕ

@@ -5,14 +5,14 @@ use lib.Dec.{ltb}
 use mathlib.Core.List.{List}
 use mathlib.Core.Path.{_≡_, refl}
 use native.Mathlib.Omega.{arith}
-use Rattle.arm7tdmi.specs.Kinds.{armFormat, armRows, undefinedBits}
+use Rattle.arm.specs.Kinds.{armFormat, armRows, undefinedBits}
 use Rattle.arm7tdmi.specs.declared.Form.{Form}
 use Rattle.arm7tdmi.specs.declared.Form.the-variants.{Bench, Sheet}
 use Rattle.arm_words.proofs.Scheme.{At, Of, Words, by-digits, hex, met-says, only}
 use Rattle.common.proofs.Tests.{by-test}
 use Rattle.words.proofs.Digits.{Digits}
 use Rattle.words.proofs.Match.{num}
-use Rattle.arm7tdmi.specs.declared.arm.ArmFormat.the-variants as A
+use Rattle.arm.specs.declared.ArmFormat.the-variants as A
 
 pub undefined-kind : (form : Form) → armFormat form (undefinedBits form) ≡ A.Undefined
 unfolding armRows

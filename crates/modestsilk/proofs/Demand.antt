@@ -7,12 +7,12 @@ use borrow.Author.Tests.{le-ltb, lt-ltb, ltb-true, ltb-false}
 use lib.Dec.{ltb}
 use native.Mathlib.Omega.{arith}
 use Rattle.common.proofs.Tests.{by-test}
-use Rattle.arm7tdmi.specs.Answer.{Answer, line}
+use Rattle.lines.specs.Answer.{Answer, line}
 use Rattle.arm7tdmi.specs.declared.Form.{Form}
-use Rattle.arm_disass.specs.Print.{armLine}
+use Rattle.arm_print.specs.Print.{armLine}
 use Rattle.arm_lowest.specs.Read.{readArm}
 use Rattle.arm_read.specs.Answer as Arm
-use Rattle.thumb_disass.specs.Print.{thumbLine}
+use Rattle.thumb_print.specs.Print.{thumbLine}
 use Rattle.thumb_lowest.specs.Read.{readThumb}
 use Rattle.thumb_read.specs.Answer as Thumb
 use Rattle.reading.specs.Read.{readBack}

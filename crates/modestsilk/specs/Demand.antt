@@ -2,7 +2,7 @@
 use mathlib.Core.Path.{_≡_}
 use mathlib.Core.List.{List}
 use Prim.Native.Nat.{ℕ, _<_}
-use Rattle.arm7tdmi.specs.Answer.{Answer, line}
+use Rattle.lines.specs.Answer.{Answer, line}
 
 -- "Reading succeeds with a word exactly when that word prints exactly that line there and every other word that prints it is higher; it gives 4
 -- exactly when none does": for a set of bound words of which each prints an answer, a line l, and what is answered for it

@@ -1,19 +1,20 @@
 // The operations for callers in C: thin calls of the proved ones. Each has the contract of the operation that it calls.
 ghost use mathlib.Core.Path.{_≡_};
-ghost use Rattle.arm7tdmi.specs.Answer.{printed};
-ghost use Rattle.arm7tdmi.specs.Kinds.{armFormat, armNumber, thumbFormat, thumbNumber};
-ghost use Rattle.arm_disass.specs.Print.{armLine};
+ghost use Rattle.lines.specs.Answer.{printed};
+ghost use Rattle.arm.specs.Kinds.{armFormat, armNumber};
+ghost use Rattle.thumb.specs.Kinds.{thumbFormat, thumbNumber};
+ghost use Rattle.arm_print.specs.Print.{armLine};
 ghost use Rattle.arm_read.specs.Answer as Arm;
 ghost use Rattle.thumb_read.specs.Answer as Thumb;
-ghost use Rattle.thumb_disass.specs.Print.{thumbLine};
+ghost use Rattle.thumb_print.specs.Print.{thumbLine};
 ghost use Rattle.modestsilk.specs.Numbers.{formOf};
-use arm_disass::print_arm;
+use arm::arm_format;
+use arm_print::print_arm;
 use arm_read::ArmRead;
 use arm_read::read_arm;
 use arm7tdmi::Form;
-use arm7tdmi::arm::arm_format;
-use arm7tdmi::thumb::thumb_format;
-use thumb_disass::print_thumb;
+use thumb::thumb_format;
+use thumb_print::print_thumb;
 use thumb_read::ThumbRead;
 use thumb_read::read_thumb;
 

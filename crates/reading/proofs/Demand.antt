@@ -7,7 +7,7 @@ use mathlib.Core.List.{List}
 use mathlib.Core.Path.{_≡_, ap, sym}
 use native.Mathlib.Nat.{lt-irrefl}
 use native.Mathlib.Omega.{arith}
-use Rattle.arm7tdmi.specs.Answer.{Answer, refused, line}
+use Rattle.lines.specs.Answer.{Answer, refused, line}
 use Rattle.common.proofs.Lists.{same-eq, same-refl}
 use Rattle.common.proofs.Lowest.{lowest-at-most, lowest-is, lowest-le, lowest-passes, verified-fails, verified-passes}
 use Rattle.common.proofs.Tests.{at, by-test}

@@ -12,7 +12,7 @@ use native.Mathlib.Numerals.{one-add}
 use native.Mathlib.Omega.{arith}
 use Rattle.arm7tdmi.proofs.Names.{reg-back, reg-wordy}
 use Rattle.arm7tdmi.specs.Names.{regNamed, regNames, regString}
-use Rattle.arm7tdmi.specs.Pieces.{joined, setBits}
+use Rattle.lines.specs.Pieces.{joined, setBits}
 use Rattle.common.proofs.Tests.{and-left, and-right, at, at-not, by-test}
 use Rattle.common.specs.Bits.{bit}
 use Rattle.common.specs.Lists.{first}

@@ -4,7 +4,7 @@ use mathlib.Core.List.{List}
 use Prim.Native.Nat.{ℕ}
 use Rattle.common.specs.Lists.{same}
 use Rattle.common.specs.Lowest.{lowest}
-use Rattle.arm7tdmi.specs.Answer.{Answer, refused, line}
+use Rattle.lines.specs.Answer.{Answer, refused, line}
 
 -- "A word prints a line if its line equals it in length and in every byte. A word whose printing is refused prints no line."
 abbrev pub isLine : Answer → List ℕ → Bool

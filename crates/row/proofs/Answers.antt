@@ -10,10 +10,11 @@ use mathlib.Core.Path.{_≡_, ap, refl}
 use native.Mathlib.Nat.{add-suc, mod-eq-of-lt, pow-le-pow-right, pow-suc, suc-add, zero-add}
 use native.Mathlib.Numerals.{add-one}
 use native.Mathlib.Omega.{arith}
-use Rattle.arm7tdmi.specs.Answer.{Answer, refused, line, given, printed}
-use Rattle.arm7tdmi.specs.Kinds.{armFormat, thumbFormat}
+use Rattle.lines.specs.Answer.{Answer, refused, line, given, printed}
+use Rattle.arm.specs.Kinds.{armFormat}
+use Rattle.thumb.specs.Kinds.{thumbFormat}
 use Rattle.arm7tdmi.specs.declared.Form.{Form}
-use Rattle.arm_disass.specs.Print.{answerOf, armLine, isHalfword, printsCond}
+use Rattle.arm_print.specs.Print.{answerOf, armLine, isHalfword, printsCond}
 use Rattle.common.proofs.Tests.{and-left, and-right, at, by-test}
 use Rattle.common.specs.Bits.{bitRange}
 use Rattle.row.specs.Row.{addressDigits, answerText, isHex, isRow, shownText, wordDigits}
@@ -21,8 +22,8 @@ use Rattle.text.specs.Digits.{digitValue, value, valueFrom}
 use Rattle.text.specs.Word.{all}
 use Rattle.arm_disass.proofs.Lengths.{line-within}
 use Rattle.thumb_disass.proofs.Lengths as Thumb
-use Rattle.thumb_disass.specs.Print.{thumbLine}
-use Rattle.arm7tdmi.specs.declared.Printed.{Printed}
+use Rattle.thumb_print.specs.Print.{thumbLine}
+use Rattle.lines.specs.declared.Printed.{Printed}
 
 -- a refusal has a number, and a line has room in 80 bytes
 abbrev pub Whole : Answer → Type 0

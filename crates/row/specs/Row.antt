@@ -7,10 +7,10 @@ use lib.ListN.{length, take, drop, getD}
 use Rattle.text.specs.Text.{text}
 use Rattle.text.specs.Digits.{dec, digitValue, value}
 use Rattle.text.specs.Word.{all}
-use Rattle.arm7tdmi.specs.Answer.{Answer, refused, line}
+use Rattle.lines.specs.Answer.{Answer, refused, line}
 use Rattle.arm7tdmi.specs.declared.Form.the-variants.{Bench}
-use Rattle.arm_disass.specs.Print.{armLine}
-use Rattle.thumb_disass.specs.Print.{thumbLine}
+use Rattle.arm_print.specs.Print.{armLine}
+use Rattle.thumb_print.specs.Print.{thumbLine}
 
 -- "the bench line, or `!` and the refusal number"
 unfoldable pub answerText : Answer → List ℕ

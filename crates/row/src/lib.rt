@@ -3,10 +3,10 @@ ghost use mathlib.Core.Path.{_≡_};
 ghost use Prim.Native.Nat.{_<_};
 ghost use Rattle.text.specs.Wrote.{Wrote};
 ghost use Rattle.arm7tdmi.specs.declared.Form.the-variants.{Bench};
-ghost use Rattle.arm_disass.specs.Print.{armLine};
-ghost use Rattle.thumb_disass.specs.Print.{thumbLine};
+ghost use Rattle.arm_print.specs.Print.{armLine};
+ghost use Rattle.thumb_print.specs.Print.{thumbLine};
 ghost use Rattle.row.specs.Row.{answerText, shownText, isHex, isRow, rowAnswer};
-use arm_disass::print_arm;
+use arm_print::print_arm;
 use arm7tdmi::Form;
 use text::put::part;
 use text::put::put_byte;
@@ -14,7 +14,7 @@ use text::put::put_dec;
 use text::put::put_text;
 use text::read::digit_value;
 use text::read::read_hex;
-use thumb_disass::print_thumb;
+use thumb_print::print_thumb;
 
 // Whether all bytes are lowercase hexadecimal digits.
 fn is_hex(s: &[u8]) -> bool

@@ -1,7 +1,7 @@
 -- Laws of writing: one write after the other, what is kept, and where the bytes stand. Assumes nothing.
-use mathlib.Core.Path.{_≡_, refl, ap, _∙_}
+use mathlib.Core.Path.{_≡_, refl, ap, sym, _∙_}
 use mathlib.Core.Bool.{Bool, true, false, cond}
-use mathlib.Core.List.{List, [], _∷_, _++_}
+use mathlib.Core.List.{List, [], _∷_, _++_, append-assoc}
 use Prim.Native.Nat.{ℕ, suc, _+_, _≤_, _<_}
 use native.Mathlib.Nat.{add-zero, zero-add, add-suc, suc-add}
 use native.Mathlib.Numerals.{add-one}
@@ -11,9 +11,9 @@ use lib.Dec.{ltb}
 use lib.ListN.{length, set, take, drop, getD, length-set}
 use lib.Seq.{set-getD, sets, sets-eq, take-suc}
 use Rattle.common.proofs.Tests.{by-test}
-use Rattle.text.specs.Wrote.{Place, store, stores, Wrote}
+use Rattle.text.specs.Wrote.{Place, Wrote, WroteBoth, store, stores}
 
-infixl 60 _⨾_
+infixl 60 _⨾_ _⨾⨾_
 stores-append : (p : Place) (x y : List ℕ) → stores (stores p x) y ≡ stores p (x ++ y)
 stores-append p [] y = refl
 stores-append p (b ∷ x) y = stores-append (store p b) x y
@@ -26,6 +26,10 @@ _⨾_ {l} {at} {x} {l₁} {r₁} {y} p q =
 -- the same bytes said otherwise
 pub same-as : {l : List ℕ} {at : ℕ} {x y l′ : List ℕ} {r : ℕ} → Wrote l at x l′ r → x ≡ y → Wrote l at y l′ r
 same-as p e = record { after = rw (← e) (p .after) }
+
+-- a text behind another and two behind that, bracketed from the left as lines are
+pub _⨾⨾_ : {l : List ℕ} {at : ℕ} {x l₁ : List ℕ} {r₁ : ℕ} {y z l₂ : List ℕ} {r₂ : ℕ} → Wrote l at x l₁ r₁ → WroteBoth l₁ r₁ y z l₂ r₂ → Wrote l at (x ++ y ++ z) l₂ r₂
+_⨾⨾_ {x = x} {y = y} {z = z} p q = same-as (p ⨾ q .whole) (sym (append-assoc x y z))
 
 -- nothing written
 pub nothing : {l : List ℕ} {at : ℕ} → Wrote l at [] l at

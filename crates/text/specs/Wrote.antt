@@ -1,7 +1,7 @@
 -- What it is to have written bytes into a buffer from a place on. Assumes nothing.
 use mathlib.Core.Path.{_≡_}
 use mathlib.Core.Bool.{cond}
-use mathlib.Core.List.{List, [], _∷_}
+use mathlib.Core.List.{List, [], _∷_, _++_}
 use Prim.Native.Nat.{ℕ, _+_}
 use lib.Dec.{ltb}
 use lib.ListN.{length, set}
@@ -26,3 +26,7 @@ stores p (b ∷ bs) = stores (store p b) bs
 -- The bytes bs were stored from the place at of a buffer that held l: it then holds l′, and r is the place behind them.
 pub record Wrote (l : List ℕ) (at : ℕ) (bs l′ : List ℕ) (r : ℕ) : Type 0 where
   pub after : _≡_ {A = Place} (record { held = l′; next = r }) (stores (record { held = l; next = at }) bs)
+
+-- The bytes x, and then the bytes y.
+pub record WroteBoth (l : List ℕ) (at : ℕ) (x y l′ : List ℕ) (r : ℕ) : Type 0 where
+  pub whole : Wrote l at (x ++ y) l′ r

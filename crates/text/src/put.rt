@@ -1,7 +1,7 @@
 // Writers. Each stores bytes into a lent buffer from a place on, as far as there is room, and answers the place behind them.
 ghost use mathlib.Core.Path.{_≡_};
 ghost use mathlib.Core.Bool.{cond};
-ghost use mathlib.Core.List.{List, [], _∷_};
+ghost use mathlib.Core.List.{[], _∷_};
 ghost use Prim.Native.Nat.{_+_, _-_, _/_, _%_, _≤_, _<_};
 ghost use lib.ListN.{take, drop};
 ghost use Rattle.text.specs.Wrote.{Wrote};

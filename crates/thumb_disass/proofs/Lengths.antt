@@ -1,37 +1,32 @@
 -- "A line has from 5 to 80 bytes." Assumes nothing.
-use mathlib.Core.Path.{_≡_}
-use mathlib.Core.List.{List, _++_}
+use mathlib.Core.List.{_++_}
 use Prim.Native.Nat.{ℕ, _*_, _<_}
 use native.Mathlib.Omega.{arith}
-use lib.Dec.{eqb}
 use Rattle.common.specs.Bits.{bit, bitRange}
-use Rattle.common.proofs.Tests.{by-test}
 use Rattle.text.specs.Text.{text}
 use Rattle.text.specs.Digits.{prefixed}
-use Rattle.text.proofs.Within.{Within, _&_, exactly, loosely, of-two, or-none, hex-within, dec-within, prefixed-within}
+use Rattle.text.proofs.Within.{Within, _&_, exactly, loosely, of-two, dec-within, prefixed-within}
 use Rattle.arm7tdmi.specs.Names.{regString, regNames}
-use Rattle.arm7tdmi.specs.Pieces.{regAt, either, registers}
+use Rattle.lines.specs.Pieces.{regAt, either, registers}
 use Rattle.arm7tdmi.specs.Alu.{barrelShiftOpCode}
-use Rattle.arm7tdmi.specs.Thumb.{opFormat3, opFormat5, thumbAluOp, word8, pcLoadAddress, bcondTarget, branchTarget, callHalf}
-use Rattle.arm7tdmi.specs.Answer.{line}
+use Rattle.thumb.specs.Fields.{opFormat3, opFormat5, thumbAluOp, word8, pcLoadAddress, bcondTarget, branchTarget, callHalf}
 use Rattle.arm7tdmi.specs.declared.Form.{Form}
-use Rattle.arm7tdmi.specs.declared.Form.the-variants.{Bench, Sheet}
 use Rattle.arm7tdmi.specs.declared.alu.BarrelShiftOpCode.{BarrelShiftOpCode}
 use Rattle.arm7tdmi.specs.declared.alu.BarrelShiftOpCode.the-variants as Shift
-use Rattle.arm7tdmi.specs.declared.thumb.OpFormat3.{OpFormat3}
-use Rattle.arm7tdmi.specs.declared.thumb.OpFormat3.the-variants as Three
-use Rattle.arm7tdmi.specs.declared.thumb.OpFormat5.{OpFormat5}
-use Rattle.arm7tdmi.specs.declared.thumb.OpFormat5.the-variants as Five
-use Rattle.arm7tdmi.specs.declared.thumb.ThumbAluOps.{ThumbAluOps}
-use Rattle.arm7tdmi.specs.declared.thumb.ThumbAluOps.the-variants as Op
-use Rattle.arm7tdmi.specs.declared.thumb.ThumbFormat.{ThumbFormat}
-use Rattle.arm7tdmi.specs.declared.thumb.ThumbFormat.the-variants as H
-use Rattle.arm7tdmi.specs.Kinds.{thumbFormat}
+use Rattle.thumb.specs.declared.OpFormat3.{OpFormat3}
+use Rattle.thumb.specs.declared.OpFormat3.the-variants as Three
+use Rattle.thumb.specs.declared.OpFormat5.{OpFormat5}
+use Rattle.thumb.specs.declared.OpFormat5.the-variants as Five
+use Rattle.thumb.specs.declared.ThumbAluOps.{ThumbAluOps}
+use Rattle.thumb.specs.declared.ThumbAluOps.the-variants as Op
+use Rattle.thumb.specs.declared.ThumbFormat.{ThumbFormat}
+use Rattle.thumb.specs.declared.ThumbFormat.the-variants as H
 use Rattle.arm7tdmi.proofs.Names.{reg-within}
-use Rattle.arm7tdmi.proofs.Lengths.{regAt-within, condAt-within, either-within, ifSet-within, registers-within}
+use Rattle.lines.proofs.Lengths.{regAt-within, condAt-within, either-within, ifSet-within, registers-within}
 use Rattle.thumb_disass.specs.Line as L
-use Rattle.thumb_disass.specs.Print.{lineOf, thumbLine}
-use Rattle.thumb_disass.proofs.PushPop.{push-pop-list}
+use Rattle.thumb_disass.specs.Line.{lineOf}
+use Rattle.thumb_operand.specs.Operand.{srcReg, highOperands, immOffset}
+use Rattle.thumb_operand.proofs.Lengths.{src, dst-and-src, add-sub-operand, sp-offset, push-pop, base}
 
 -- ---- pieces
 -- the registers in the fields of three bits
@@ -103,61 +98,12 @@ shb raw =
     (either-within raw 11 (exactly (text "ldsh")) (exactly (text "ldsb")))
     (either-within raw 11 (exactly (text "ldrh")) (exactly (text "strh")))
 
--- ---- high registers
-high-dst : (form : Form) (raw : ℕ) → L.highDst form raw < 16
-unfolding L.highDst
-high-dst Bench raw = omega arith
-high-dst Sheet raw = omega arith
-
-dst : (form : Form) (raw : ℕ) → L.dstReg form raw < 16
-unfolding L.dstReg
-dst form raw = let h = high-dst form raw in by-test (bit raw 7) (λ t. rw t h) (λ t. rw t (omega arith))
-
-src : (raw : ℕ) → L.srcReg raw < 16
-unfolding L.srcReg
-src raw = by-test (bit raw 6) (λ t. rw t (omega arith)) (λ t. rw t (omega arith))
-
-dst-and-src : (form : Form) (raw : ℕ) → Within 6 8 (L.dstAndSrc form raw)
-unfolding L.dstAndSrc
-dst-and-src form raw = reg-within (L.dstReg form raw) (dst form raw) & exactly (text ", ") & reg-within (L.srcReg raw) (src raw)
-
-high : (form : Form) (raw : ℕ) (op : OpFormat5) → Within 5 12 (L.op5Text op ++ text "\t" ++ L.highOperands form raw op)
-unfolding L.op5Text L.highOperands
+high : (form : Form) (raw : ℕ) (op : OpFormat5) → Within 5 12 (L.op5Text op ++ text "\t" ++ highOperands form raw op)
+unfolding L.op5Text highOperands
 high form raw Five.ADD = loosely (exactly (text "add") & exactly (text "\t") & dst-and-src form raw) (omega arith) (omega arith)
 high form raw Five.CMP = loosely (exactly (text "cmp") & exactly (text "\t") & dst-and-src form raw) (omega arith) (omega arith)
 high form raw Five.MOV = loosely (exactly (text "mov") & exactly (text "\t") & dst-and-src form raw) (omega arith) (omega arith)
-high form raw Five.BX = loosely (exactly (text "bx") & exactly (text "\t") & reg-within (L.srcReg raw) (src raw)) (omega arith) (omega arith)
-
--- ---- other operands
-add-sub-operand : (raw : ℕ) → Within 2 9 (L.addSubOperand raw)
-unfolding L.addSubOperand
-add-sub-operand raw =
-    of-two (bit raw 10) (exactly (text "#") & hex-within 1 (bitRange raw 6 9) (omega arith))
-    (loosely (ro raw) (omega arith) (omega arith))
-
-sp-offset : (form : Form) (raw : ℕ) → Within 1 11 (L.spOffset form raw)
-unfolding L.spOffset L.sheetSpOffset
-sp-offset Bench raw = loosely (hex-within 1 (L.spBits raw) (omega arith)) (omega arith) (omega arith)
-sp-offset Sheet raw = loosely (ifSet-within raw 7 (exactly (text "-")) & number (L.spSize raw)) (omega arith) (omega arith)
-
-link-name : (raw : ℕ) → Within 2 2 (L.linkName raw)
-unfolding L.linkName
-link-name raw = either-within raw 11 (exactly (text "pc")) (exactly (text "lr"))
-
-link : (raw : ℕ) → Within 0 4 (L.linkText raw)
-unfolding L.linkText
-link raw =
-    or-none (bit raw 8)
-    (of-two (eqb (bitRange raw 0 8) 0) (loosely {c = 2} {d = 4} (link-name raw) (omega arith) (omega arith))
-    (loosely (exactly (text ", ") & link-name raw) (omega arith) (omega arith)))
-
-push-pop : (raw : ℕ) → Within 0 34 (L.pushPopList raw)
-push-pop raw = rw (← push-pop-list raw) (list raw & link raw)
-
-base : (form : Form) (raw : ℕ) → Within 2 3 (L.baseText form raw)
-unfolding L.baseText
-base Bench raw = rs raw
-base Sheet raw = high-rd raw
+high form raw Five.BX = loosely (exactly (text "bx") & exactly (text "\t") & reg-within (srcReg raw) (src raw)) (omega arith) (omega arith)
 
 -- ---- the lines
 pub line-within : (form : Form) (fmt : ThumbFormat) (pc raw : ℕ) → Within 5 80 (lineOf form fmt pc raw)
@@ -187,7 +133,7 @@ line-within form H.LdrStrSHB pc raw =
 line-within form H.LdrStrImmOffset pc raw =
     loosely (ldr-str raw & ifSet-within raw 12 (exactly (text "b")) & exactly (text "\t") & rd raw & exactly (text ", [") & rs raw
     & exactly (text ", #")
-    & number (L.immOffset raw)
+    & number (immOffset raw)
     & exactly (text "]")) (omega arith) (omega arith)
 line-within form H.LdrStrHalfWord pc raw =
     loosely (either-within raw 11 (exactly (text "ldrh")) (exactly (text "strh")) & exactly (text "\t") & rd raw & exactly (text ", [") & rs raw
@@ -212,8 +158,3 @@ line-within form H.Branch pc raw = loosely (exactly (text "b\t") & number (branc
 line-within form H.BranchLongWithLink pc raw =
     loosely (exactly (text "bl\t#") & prefixed-within 8 (callHalf raw) (omega arith)) (omega arith) (omega arith)
 line-within form H.Undefined pc raw = loosely (exactly (text "<Undefined>")) (omega arith) (omega arith)
-
--- whatever line a word prints
-pub thumb-within : (form : Form) (pc raw : ℕ) {bs : List ℕ} → thumbLine form pc raw ≡ line bs → Within 5 80 bs
-unfolding thumbLine
-thumb-within form pc raw {bs} e = let same : lineOf form (thumbFormat form raw) pc raw ≡ bs = cc in rw (← same) (line-within form (thumbFormat form raw) pc raw)

@@ -1,2 +1,2 @@
-pub mod PushPop
 pub mod Lengths
+pub mod Operations

@@ -1,13 +1,7 @@
 // The lines of Thumb words, bench and sheet.
-ghost use mathlib.Core.Path.{_≡_};
 ghost use Rattle.text.specs.Wrote.{Wrote};
-ghost use Rattle.arm7tdmi.specs.Answer.{line, printed};
-ghost use Rattle.thumb_disass.specs.Print.{lineOf, thumbLine};
+ghost use Rattle.thumb_disass.specs.Line.{lineOf};
 use arm7tdmi::Form;
-use arm7tdmi::Printed;
-use arm7tdmi::disass::give_line;
-use arm7tdmi::thumb::ThumbFormat;
-use arm7tdmi::thumb::thumb_format;
 use disass::fmt_thumb_add_sp;
 use disass::fmt_thumb_add_sub;
 use disass::fmt_thumb_alu_ops;
@@ -28,12 +22,13 @@ use disass::fmt_thumb_move_shifted_reg;
 use disass::fmt_thumb_push_pop;
 use disass::fmt_thumb_swi;
 use text::put::put_text;
+use thumb::ThumbFormat;
 
 mod disass;
 mod operation;
 
 // The line of a word of a kind, at the start of a buffer.
-fn put_line(buf: &mut [u8], form: Form, fmt: ThumbFormat, pc: u32, raw: u32) -> usize
+pub fn put_line(buf: &mut [u8], form: Form, fmt: ThumbFormat, pc: u32, raw: u32) -> usize
     ensures { λ r. ⌜ Wrote (now (buf .entry)) 0 (lineOf form fmt pc raw) (now (buf .exit)) r ⌝ }
 {
     match fmt {
@@ -58,28 +53,4 @@ fn put_line(buf: &mut [u8], form: Form, fmt: ThumbFormat, pc: u32, raw: u32) -> 
         ThumbFormat::BranchLongWithLink => fmt_thumb_branch_long_with_link(buf, 0, raw),
         ThumbFormat::Undefined => put_text(buf, 0, b"<Undefined>"),
     }
-}
-
-// The line of a word of a kind. A buffer with room for any line takes it straight; a shorter one gets it from a copy, if it fits.
-fn print_line(form: Form, fmt: ThumbFormat, raw: u32, pc: u32, buf: &mut [u8]) -> Printed
-    ensures { λ r. ⌜ printed (line (lineOf form fmt pc raw)) (now (buf .entry)) ≡ (r, now (buf .exit)) ⌝ }
-{
-    if 80 <= buf.len() {
-        let n = put_line(buf, form, fmt, pc, raw);
-        return Printed {
-            number: 0,
-            length: n,
-        };
-    }
-    let mut scratch = [0u8; 80];
-    let n = put_line(&mut scratch, form, fmt, pc, raw);
-    give_line(buf, &scratch[..n])
-}
-
-// Prints the line of a word at an address into a buffer.
-pub fn print_thumb(form: Form, raw: u16, pc: u32, buf: &mut [u8]) -> Printed
-    ensures { λ r. ⌜ printed (thumbLine form pc raw) (now (buf .entry)) ≡ (r, now (buf .exit)) ⌝ }
-{
-    let fmt = thumb_format(form, raw);
-    print_line(form, fmt, raw as u32, pc, buf)
 }

@@ -3,11 +3,12 @@ ghost use Rattle.text.specs.Wrote.{Wrote};
 ghost use Rattle.thumb_disass.specs.Line.{shiftText, op3Text, op5Text, aluOpText, shbText};
 use arm7tdmi::alu::BarrelShiftOpCode;
 use arm7tdmi::bit::bit;
-use arm7tdmi::disass::put_either;
-use arm7tdmi::thumb::OpFormat3;
-use arm7tdmi::thumb::OpFormat5;
-use arm7tdmi::thumb::ThumbAluOps;
+use lines::put_either;
+use text::put::part;
 use text::put::put_text;
+use thumb::OpFormat3;
+use thumb::OpFormat5;
+use thumb::ThumbAluOps;
 
 // In capitals, as the Rust prints them here.
 pub fn put_shift(buf: &mut [u8], at: usize, op: BarrelShiftOpCode) -> usize
@@ -46,24 +47,13 @@ pub fn put_op5(buf: &mut [u8], at: usize, op: OpFormat5) -> usize
 pub fn put_alu_op(buf: &mut [u8], at: usize, op: ThumbAluOps) -> usize
     ensures { λ r. ⌜ Wrote (now (buf .entry)) at (aluOpText op) (now (buf .exit)) r ⌝ }
 {
-    match op {
-        ThumbAluOps::AND => put_text(buf, at, b"and"),
-        ThumbAluOps::EOR => put_text(buf, at, b"eor"),
-        ThumbAluOps::LSL => put_text(buf, at, b"lsl"),
-        ThumbAluOps::LSR => put_text(buf, at, b"lsr"),
-        ThumbAluOps::ASR => put_text(buf, at, b"asr"),
-        ThumbAluOps::ADC => put_text(buf, at, b"adc"),
-        ThumbAluOps::SBC => put_text(buf, at, b"sbc"),
-        ThumbAluOps::ROR => put_text(buf, at, b"ror"),
-        ThumbAluOps::TST => put_text(buf, at, b"tst"),
-        ThumbAluOps::NEG => put_text(buf, at, b"neg"),
-        ThumbAluOps::CMP => put_text(buf, at, b"cmp"),
-        ThumbAluOps::CMN => put_text(buf, at, b"cmn"),
-        ThumbAluOps::ORR => put_text(buf, at, b"orr"),
-        ThumbAluOps::MUL => put_text(buf, at, b"mul"),
-        ThumbAluOps::BIC => put_text(buf, at, b"bic"),
-        ThumbAluOps::MVN => put_text(buf, at, b"mvn"),
-    }
+    let n = op.number();
+    let from = 3 * n as usize;
+    put_text(
+        buf,
+        at,
+        part(b"andeorlsllsrasradcsbcrortstnegcmpcmnorrmulbicmvn", from, 3),
+    )
 }
 
 // The transfers of halfwords and signed bytes.

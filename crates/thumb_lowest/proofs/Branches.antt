@@ -1,5 +1,5 @@
 -- Branches: BranchConditional, Branch, BranchLongWithLink. Assumes nothing.
-use Rattle.thumb_words.proofs.Parts.{word as made}
+use Rattle.thumb_words.proofs.Parts.{word as made, Fits}
 use Prim.Native.Nat.{_%_, _*_, _+_, _-_, _/_, _<_, _^_, ℕ}
 use borrow.Author.Tests.{ltb-false, ltb-true}
 use lib.Dec.{T, eqb, ltb}
@@ -7,28 +7,27 @@ use mathlib.Core.Bool.{cond, true}
 use mathlib.Core.List.{List, [], _++_, _∷_}
 use mathlib.Core.Path.{_∙_, _≡_, refl}
 use native.Mathlib.Omega.{arith}
-use Rattle.arm7tdmi.specs.Kinds.{thumbNumber}
+use Rattle.thumb.specs.Kinds.{thumbNumber}
 use Rattle.arm7tdmi.specs.Names.{condNames, condText}
-use Rattle.arm7tdmi.specs.Pieces.{condAt}
+use Rattle.lines.specs.Pieces.{condAt}
 use Rattle.arm7tdmi.specs.Signed.{extended, moved}
-use Rattle.arm7tdmi.specs.Thumb.{bcondTarget, branchTarget, callHalf}
+use Rattle.thumb.specs.Fields.{bcondTarget, branchTarget, callHalf}
 use Rattle.arm7tdmi.specs.declared.Form.{Form}
 use Rattle.arm7tdmi.specs.declared.Form.the-variants.{Bench, Sheet}
-use Rattle.arm7tdmi.specs.declared.thumb.ThumbFormat.{ThumbFormat}
+use Rattle.thumb.specs.declared.ThumbFormat.{ThumbFormat}
 use Rattle.common.proofs.Tests.{by-test}
 use Rattle.common.specs.Lists.{first, same}
 use Rattle.reading.proofs.Pieces.{good, last, piece, spell, word-nth}
 use Rattle.text.specs.Digits.{prefixed}
 use Rattle.text.specs.Text.{text}
 use Rattle.text.specs.Word.{isWord}
-use Rattle.thumb_disass.specs.Line.{fmtThumbBranch, fmtThumbBranchLongWithLink, fmtThumbBranchWithCond}
-use Rattle.thumb_disass.specs.Print.{lineOf}
+use Rattle.thumb_disass.specs.Line.{fmtThumbBranch, fmtThumbBranchLongWithLink, fmtThumbBranchWithCond, lineOf}
 use Rattle.thumb_lowest.proofs.Found.{Law, Mnemonic, Words, exact, row-is, rows-are}
 use Rattle.thumb_lowest.proofs.Parts.{prefixed-back, prefixed-wordy, regroup}
-use Rattle.thumb_lowest.specs.Candidate.{callUnit, offsetIn, operands, rows, suits}
+use Rattle.thumb_candidate.specs.Candidate.{callUnit, offsetIn, operands, suits}
+use Rattle.thumb_mnemonic.specs.Rows.{rows}
 use Rattle.thumb_words.proofs.Laws.{conditions, parts, thumb-read, thumb-words}
-use Rattle.thumb_words.proofs.Parts.{Fits}
-use Rattle.arm7tdmi.specs.declared.thumb.ThumbFormat.the-variants as H
+use Rattle.thumb.specs.declared.ThumbFormat.the-variants as H
 
 -- ---- a target back to the sign-extended field, of eight bits and of eleven
 distance-back : (p x : ℕ) → p < 2 ^ 32 → x < 2 ^ 32 → moved (moved p x) (2 ^ 32 - p) ≡ x

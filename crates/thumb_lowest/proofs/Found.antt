@@ -1,5 +1,5 @@
 -- What a candidate has to be of a word, and the candidate that is a word of a kind. Assumes nothing.
-use Rattle.thumb_words.proofs.Parts.{word as made}
+use Rattle.thumb_words.proofs.Parts.{word as made, Fits}
 use Prim.Native.Nat.{_+_, _<_, _^_, _≤_, suc, zero, ℕ}
 use borrow.Author.Tests.{eqb-true, ltb-true}
 use lib.Dec.{T, eqb, ltb}
@@ -9,10 +9,10 @@ use mathlib.Core.List.{List, [], _∷_}
 use mathlib.Core.Logic.{inl, inr}
 use mathlib.Core.Path.{_∙_, _≡_, ap, refl, sym}
 use native.Mathlib.Nat.{le-of-suc-le-suc, le-refl, mod-eq-of-lt, not-suc-le-zero}
-use Rattle.arm7tdmi.specs.Answer.{line}
-use Rattle.arm7tdmi.specs.Kinds.{thumbFormat, thumbNumber}
+use Rattle.lines.specs.Answer.{line}
+use Rattle.thumb.specs.Kinds.{thumbFormat, thumbNumber}
 use Rattle.arm7tdmi.specs.declared.Form.{Form}
-use Rattle.arm7tdmi.specs.declared.thumb.ThumbFormat.{ThumbFormat}
+use Rattle.thumb.specs.declared.ThumbFormat.{ThumbFormat}
 use Rattle.common.proofs.Lists.{same-eq, same-refl}
 use Rattle.common.proofs.Tests.{and-left, and-right, at, by-test, every}
 use Rattle.common.specs.Lists.{first, same}
@@ -22,10 +22,11 @@ use Rattle.reading.proofs.Several.{Covers}
 use Rattle.reading.specs.Read.{isLine}
 use Rattle.text.proofs.Word.{wordy}
 use Rattle.text.specs.Word.{word}
-use Rattle.thumb_disass.specs.Print.{lineOf, thumbLine}
-use Rattle.thumb_lowest.specs.Candidate.{Row, candidate, candidates, candidatesFrom, noRow, operands, rowAt, rows, suits}
+use Rattle.thumb_disass.specs.Line.{lineOf}
+use Rattle.thumb_print.specs.Print.{thumbLine}
+use Rattle.thumb_mnemonic.specs.Rows.{Row, noRow, rowAt, rows}
+use Rattle.thumb_candidate.specs.Candidate.{candidate, candidates, candidatesFrom, operands, suits}
 use Rattle.thumb_words.proofs.Laws.{NoHigher, parts, same-kind, thumb-kind, thumb-small}
-use Rattle.thumb_words.proofs.Parts.{Fits}
 
 -- a text where a bit is set, and another where it is clear
 abbrev pub pick : ℕ → List ℕ → List ℕ → List ℕ

@@ -8,7 +8,7 @@ use mathlib.Core.Path.{_∙_, _≡_, ap, refl}
 use native.Mathlib.Omega.{arith}
 use Rattle.arm7tdmi.proofs.Names.{reg-back, reg-wordy}
 use Rattle.arm7tdmi.specs.Names.{regString}
-use Rattle.arm7tdmi.specs.Thumb.{opFormat5}
+use Rattle.thumb.specs.Fields.{opFormat5}
 use Rattle.arm7tdmi.specs.declared.Form.{Form}
 use Rattle.arm7tdmi.specs.declared.Form.the-variants.{Bench, Sheet}
 use Rattle.common.proofs.Tests.{at, by-test}
@@ -16,15 +16,16 @@ use Rattle.common.specs.Lists.{first, same}
 use Rattle.reading.proofs.Pieces.{Pieces, good, last, piece, spell, word-nth}
 use Rattle.text.specs.Text.{text}
 use Rattle.text.specs.Word.{isWord}
-use Rattle.thumb_disass.specs.Line.{dstAndSrc, dstReg, fmtThumbHighRegOpOrBx, highDst, highOperands, op5Text, srcReg}
-use Rattle.thumb_disass.specs.Print.{lineOf}
+use Rattle.thumb_operand.specs.Operand.{dstAndSrc, dstReg, highDst, highOperands, srcReg}
+use Rattle.thumb_disass.specs.Line.{fmtThumbHighRegOpOrBx, op5Text, lineOf}
 use Rattle.thumb_lowest.proofs.Found.{Law, Mnemonic, Words, found, rows-are}
 use Rattle.thumb_lowest.proofs.Parts.{regroup}
-use Rattle.thumb_lowest.specs.Candidate.{highIn, operands, rows, suits}
+use Rattle.thumb_candidate.specs.Candidate.{highIn, operands, suits}
+use Rattle.thumb_mnemonic.specs.Rows.{rows}
 use Rattle.thumb_words.proofs.Laws.{NoHigher, parts, thumb-lower, thumb-read, thumb-words}
 use Rattle.thumb_words.proofs.Parts.{Fits}
 use Rattle.thumb_words.proofs.Words.{bench-destination, bx-least, by-flag, hiReg-least, hiRegWord}
-use Rattle.arm7tdmi.specs.declared.thumb.ThumbFormat.the-variants as H
+use Rattle.thumb.specs.declared.ThumbFormat.the-variants as H
 
 -- ---- what a line shows of bit 7: on the bench it shows where bit 3 is set, on the sheet always
 abbrev shows : Form → ℕ → ℕ → ℕ

@@ -1,5 +1,5 @@
 -- Kinds whose lines have low registers in words 1 and 2: MoveShiftedReg, AddSub, AluOps, and loads and stores by a register or a number. Assumes nothing.
-use Rattle.thumb_words.proofs.Parts.{word as made}
+use Rattle.thumb_words.proofs.Parts.{word as made, Fits}
 use Prim.Native.Nat.{_%_, _*_, _+_, _/_, _<_, _^_, ℕ}
 use borrow.Author.Tests.{eqb-false, eqb-true, lt-ltb}
 use lib.Dec.{T, eqb, ltb}
@@ -9,12 +9,12 @@ use mathlib.Core.Path.{_∙_, _≡_, refl, sym}
 use native.Mathlib.Omega.{arith}
 use Rattle.arm7tdmi.proofs.Names.{reg-back, reg-wordy}
 use Rattle.arm7tdmi.specs.Alu.{barrelShiftOpCode}
-use Rattle.arm7tdmi.specs.Kinds.{thumbNumber}
+use Rattle.thumb.specs.Kinds.{thumbNumber}
 use Rattle.arm7tdmi.specs.Names.{regString}
-use Rattle.arm7tdmi.specs.Pieces.{either, ifSet, regAt}
-use Rattle.arm7tdmi.specs.Thumb.{thumbAluOp}
+use Rattle.lines.specs.Pieces.{either, ifSet, regAt}
+use Rattle.thumb.specs.Fields.{thumbAluOp}
 use Rattle.arm7tdmi.specs.declared.Form.{Form}
-use Rattle.arm7tdmi.specs.declared.thumb.ThumbFormat.{ThumbFormat}
+use Rattle.thumb.specs.declared.ThumbFormat.{ThumbFormat}
 use Rattle.common.proofs.Tests.{at, by-test}
 use Rattle.common.specs.Lists.{first, same}
 use Rattle.reading.proofs.Pieces.{Pieces, first-word, firstOf, gapsHave, good, has-append, has-gaps, last, lead-from, none, piece, spell, word-nth}
@@ -23,16 +23,16 @@ use Rattle.text.proofs.Word.{dec-wordy, gap, hex-wordy, wordy}
 use Rattle.text.specs.Digits.{dec, hex, prefixed}
 use Rattle.text.specs.Text.{text}
 use Rattle.text.specs.Word.{after, fromWord, has, isWord, word}
-use Rattle.thumb_disass.specs.Line.{addSubOperand, aluOpText, fmtThumbAddSub, fmtThumbAluOps, fmtThumbLdrStrHalfword, fmtThumbLdrStrImmOffset, fmtThumbLdrStrRegOffset, fmtThumbLdrStrShb, fmtThumbMoveShiftedReg, immOffset, shbText, shiftText}
-use Rattle.thumb_disass.specs.Print.{lineOf}
+use Rattle.thumb_operand.specs.Operand.{addSubOperand, immOffset}
+use Rattle.thumb_disass.specs.Line.{aluOpText, fmtThumbAddSub, fmtThumbAluOps, fmtThumbLdrStrHalfword, fmtThumbLdrStrImmOffset, fmtThumbLdrStrRegOffset, fmtThumbLdrStrShb, fmtThumbMoveShiftedReg, shbText, shiftText, lineOf}
 use Rattle.thumb_lowest.proofs.Found.{Law, Mnemonic, Words, exact, pick, rows-are, rows-are₂, whole-found}
 use Rattle.thumb_lowest.proofs.Parts.{prefixed-back, prefixed-wordy, regroup}
-use Rattle.thumb_lowest.specs.Candidate.{lowIn, operands, rows, shiftIn, thirdIn, transferUnit, suits}
+use Rattle.thumb_candidate.specs.Candidate.{lowIn, operands, shiftIn, thirdIn, transferUnit, suits}
+use Rattle.thumb_mnemonic.specs.Rows.{rows}
 use Rattle.reading.specs.Parts.{flag}
 use Rattle.thumb_words.proofs.Laws.{parts, thumb-read, thumb-words}
-use Rattle.thumb_words.proofs.Parts.{Fits}
 use Rattle.thumb_words.proofs.Words.{moveShiftedRegWord}
-use Rattle.arm7tdmi.specs.declared.thumb.ThumbFormat.the-variants as H
+use Rattle.thumb.specs.declared.ThumbFormat.the-variants as H
 
 -- words 1 and 2 are the registers in bits 2-0 and 5-3
 module _ (m g : List ℕ) (rd rs : ℕ) (q : Pieces) where

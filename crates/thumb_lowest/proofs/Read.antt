@@ -5,10 +5,10 @@ use mathlib.Core.Bool.{Bool, true}
 use mathlib.Core.List.{List, []}
 use mathlib.Core.Path.{_≡_, ap, refl, sym}
 use native.Mathlib.Omega.{arith}
-use Rattle.arm7tdmi.specs.Answer.{line}
-use Rattle.arm7tdmi.specs.Kinds.{thumbFormat}
+use Rattle.lines.specs.Answer.{line}
+use Rattle.thumb.specs.Kinds.{thumbFormat}
 use Rattle.arm7tdmi.specs.declared.Form.{Form}
-use Rattle.arm7tdmi.specs.declared.thumb.ThumbFormat.{ThumbFormat}
+use Rattle.thumb.specs.declared.ThumbFormat.{ThumbFormat}
 use Rattle.common.proofs.Lists.{same-eq}
 use Rattle.common.proofs.Tests.{at}
 use Rattle.reading.proofs.Several.{Covers, best, covered}
@@ -16,17 +16,19 @@ use Rattle.reading.specs.Read.{isLine, readBack}
 use Rattle.text.proofs.Word.{word-of}
 use Rattle.text.specs.Text.{text}
 use Rattle.text.specs.Word.{isWord}
-use Rattle.thumb_disass.specs.Print.{lineOf, thumbLine}
+use Rattle.thumb_disass.specs.Line.{lineOf}
+use Rattle.thumb_print.specs.Print.{thumbLine}
 use Rattle.thumb_lowest.proofs.Branches.{branch-law, branchConditional-law, branchLongWithLink-law}
 use Rattle.thumb_lowest.proofs.Found.{Found, found-covers}
 use Rattle.thumb_lowest.proofs.High.{highReg-law}
 use Rattle.thumb_lowest.proofs.Low.{addSub-law, aluOps-law, ldrStrHalfWord-law, ldrStrImmOffset-law, ldrStrRegOffset-law, ldrStrSHB-law, moveShiftedReg-law}
 use Rattle.thumb_lowest.proofs.Stack.{addSp-law, ldmStm-law, pushPop-law}
 use Rattle.thumb_lowest.proofs.Wide.{dataProcessImm-law, ldrPc-law, ldrStrSp-law, loadAddress-law, swi-law}
-use Rattle.thumb_lowest.specs.Candidate.{candidate, candidates, operands, rows, suits}
+use Rattle.thumb_candidate.specs.Candidate.{candidate, candidates, operands, suits}
+use Rattle.thumb_mnemonic.specs.Rows.{rows}
 use Rattle.thumb_lowest.specs.Read.{readThumb}
 use Rattle.thumb_words.proofs.Rows.{undefined-least, undefined-lowest}
-use Rattle.arm7tdmi.specs.declared.thumb.ThumbFormat.the-variants as H
+use Rattle.thumb.specs.declared.ThumbFormat.the-variants as H
 
 -- ---- Undefined: the lowest such word
 undefined-law : (form : Form) (pc w : ℕ) → w < 2 ^ 16 → thumbFormat form w ≡ H.Undefined → Found form pc w (lineOf form H.Undefined pc w)

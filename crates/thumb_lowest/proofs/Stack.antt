@@ -9,7 +9,7 @@ use mathlib.Core.Path.{_∙_, _≡_, ap, refl}
 use native.Mathlib.Omega.{arith}
 use Rattle.arm7tdmi.proofs.Names.{reg-back, reg-wordy}
 use Rattle.arm7tdmi.specs.Names.{regNames, regString}
-use Rattle.arm7tdmi.specs.Pieces.{either, ifSet, joined, regAt, registers, setBits}
+use Rattle.lines.specs.Pieces.{either, ifSet, joined, regAt, registers, setBits}
 use Rattle.arm7tdmi.specs.declared.Form.{Form}
 use Rattle.arm7tdmi.specs.declared.Form.the-variants.{Bench, Sheet}
 use Rattle.common.proofs.Lists.{agreed}
@@ -21,17 +21,18 @@ use Rattle.text.proofs.Word.{hex-wordy}
 use Rattle.text.specs.Digits.{hex, prefixed}
 use Rattle.text.specs.Text.{text}
 use Rattle.text.specs.Word.{fromWord, has, isWord}
-use Rattle.thumb_disass.specs.Line.{baseText, fmtThumbAddSp, fmtThumbLdmStm, fmtThumbPushPop, linkName, pushPopList, sheetSpOffset, spBits, spOffset, spSize}
-use Rattle.thumb_disass.specs.Print.{lineOf}
+use Rattle.thumb_operand.specs.Operand.{baseText, linkName, pushPopList, sheetSpOffset, spBits, spOffset, spSize}
+use Rattle.thumb_disass.specs.Line.{fmtThumbAddSp, fmtThumbLdmStm, fmtThumbPushPop, lineOf}
 use Rattle.thumb_lowest.proofs.Found.{Law, Words, exact, found, pick, row-is, rows-are}
 use Rattle.thumb_lowest.proofs.Parts.{flag-back, prefixed-back, prefixed-wordy, regroup}
 use Rattle.reading.proofs.RegisterList.{behindWord, below-append, below16, bits-below, bits-few, bits-sum, list-back, list-first, list-good, list-spelled, same-bits, sum-append, sumOf}
-use Rattle.thumb_lowest.specs.Candidate.{blockIn, operands, rows, signed, spIn, stackIn, suits}
+use Rattle.thumb_candidate.specs.Candidate.{blockIn, operands, signed, spIn, stackIn, suits}
+use Rattle.thumb_mnemonic.specs.Rows.{rows}
 use Rattle.reading.specs.Parts.{flag, listIn, regIn}
 use Rattle.thumb_words.proofs.Laws.{NoHigher, parts, thumb-lower, thumb-read, thumb-words}
 use Rattle.thumb_words.proofs.Parts.{Fits}
 use Rattle.thumb_words.proofs.Words.{addSpWord, bench-base, ldmStm-least, ldmStmWord, pushPopWord}
-use Rattle.arm7tdmi.specs.declared.thumb.ThumbFormat.the-variants as H
+use Rattle.thumb.specs.declared.ThumbFormat.the-variants as H
 
 -- ---- add of sp
 -- sheet: "add\tsp, #0x..", "add\tsp, #-0x.."

@@ -15,10 +15,11 @@ use Rattle.reading.proofs.Several.{best}
 use Rattle.reading.specs.Read.{isLine}
 use Rattle.text.proofs.Packed.{Bytes, find-packed, fit}
 use Rattle.text.specs.Word.{packed, word}
-use Rattle.thumb_disass.specs.Print.{thumbLine}
+use Rattle.thumb_print.specs.Print.{thumbLine}
 use Rattle.thumb_lowest.proofs.Found.{rows-many}
 use Rattle.thumb_lowest.proofs.Read.{read-thumb}
-use Rattle.thumb_lowest.specs.Candidate.{candidate, candidates, candidatesFrom, noRow, rowAt, rows, suits}
+use Rattle.thumb_candidate.specs.Candidate.{candidate, candidates, candidatesFrom, suits}
+use Rattle.thumb_mnemonic.specs.Rows.{noRow, rowAt, rows}
 use Rattle.thumb_lowest.specs.Read.{readThumb}
 
 -- ---- a row's mnemonic is found by its number

@@ -1,5 +1,5 @@
 -- Kinds whose lines have a low register and a number: DataProcessImm, LdrPc, LdrStrSp, LoadAddress; and Swi. Assumes nothing.
-use Rattle.thumb_words.proofs.Parts.{word as made}
+use Rattle.thumb_words.proofs.Parts.{word as made, Fits}
 use Prim.Native.Nat.{_*_, _+_, _<_, _^_, ℕ}
 use borrow.Author.Tests.{eqb-true}
 use lib.Dec.{T, eqb, ltb}
@@ -8,12 +8,12 @@ use mathlib.Core.List.{List, [], _++_, _∷_}
 use mathlib.Core.Path.{_≡_, refl}
 use native.Mathlib.Omega.{arith}
 use Rattle.arm7tdmi.proofs.Names.{reg-back, reg-wordy}
-use Rattle.arm7tdmi.specs.Kinds.{thumbNumber}
+use Rattle.thumb.specs.Kinds.{thumbNumber}
 use Rattle.arm7tdmi.specs.Names.{regNamed, regNames, regString}
-use Rattle.arm7tdmi.specs.Pieces.{either, regAt}
-use Rattle.arm7tdmi.specs.Thumb.{opFormat3, pcLoadAddress, word8}
+use Rattle.lines.specs.Pieces.{either, regAt}
+use Rattle.thumb.specs.Fields.{opFormat3, pcLoadAddress, word8}
 use Rattle.arm7tdmi.specs.declared.Form.{Form}
-use Rattle.arm7tdmi.specs.declared.thumb.ThumbFormat.{ThumbFormat}
+use Rattle.thumb.specs.declared.ThumbFormat.{ThumbFormat}
 use Rattle.common.proofs.Tests.{at}
 use Rattle.common.specs.Lists.{first, same}
 use Rattle.reading.proofs.Pieces.{Pieces, firstOf, good, last, none, piece, spell, word-nth}
@@ -21,16 +21,15 @@ use Rattle.text.proofs.Word.{gap, wordy}
 use Rattle.text.specs.Digits.{prefixed}
 use Rattle.text.specs.Text.{text}
 use Rattle.text.specs.Word.{fromWord, isWord, word}
-use Rattle.thumb_disass.specs.Line.{fmtThumbDataProcessImm, fmtThumbLdrPc, fmtThumbLdrStrSp, fmtThumbLoadAddress, fmtThumbSwi, op3Text}
-use Rattle.thumb_disass.specs.Print.{lineOf}
+use Rattle.thumb_disass.specs.Line.{fmtThumbDataProcessImm, fmtThumbLdrPc, fmtThumbLdrStrSp, fmtThumbLoadAddress, fmtThumbSwi, op3Text, lineOf}
 use Rattle.thumb_lowest.proofs.Found.{Law, Mnemonic, Words, exact, pick, row-is, rows-are}
 use Rattle.thumb_lowest.proofs.Parts.{prefixed-back, prefixed-wordy, regroup}
-use Rattle.thumb_lowest.specs.Candidate.{operands, rows, wideIn, suits}
+use Rattle.thumb_candidate.specs.Candidate.{operands, wideIn, suits}
+use Rattle.thumb_mnemonic.specs.Rows.{rows}
 use Rattle.reading.specs.Parts.{flag}
 use Rattle.thumb_words.proofs.Laws.{parts, thumb-read, thumb-words}
-use Rattle.thumb_words.proofs.Parts.{Fits}
 use Rattle.thumb_words.proofs.Words.{ldrPcWord}
-use Rattle.arm7tdmi.specs.declared.thumb.ThumbFormat.the-variants as H
+use Rattle.thumb.specs.declared.ThumbFormat.the-variants as H
 
 -- ---- "{op}\t{Rd}, #{Offset8:#x}"
 pub dataProcessImm-law : (form : Form) (pc : ℕ) → Words form pc H.DataProcessImm tt

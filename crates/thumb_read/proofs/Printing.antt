@@ -8,16 +8,17 @@ use mathlib.Core.Bool.{false}
 use mathlib.Core.List.{List, _++_}
 use mathlib.Core.Path.{_≡_, ap, refl, sym}
 use native.Mathlib.Omega.{arith}
-use Rattle.arm7tdmi.specs.Answer.{Answer, refused, line, given, printed}
-use Rattle.arm7tdmi.specs.declared.Printed.{Printed}
-use Rattle.arm7tdmi.specs.Kinds.{thumbFormat}
+use Rattle.lines.specs.Answer.{Answer, refused, line, given, printed}
+use Rattle.lines.specs.declared.Printed.{Printed}
+use Rattle.thumb.specs.Kinds.{thumbFormat}
 use Rattle.arm7tdmi.specs.declared.Form.{Form}
 use Rattle.common.proofs.Tests.{at}
 use Rattle.common.specs.Lists.{same}
 use Rattle.reading.proofs.Demand.{none-read, read-most}
 use Rattle.reading.specs.Read.{isLine}
-use Rattle.thumb_disass.proofs.Lengths.{line-within, thumb-within}
-use Rattle.thumb_disass.specs.Print.{thumbLine}
+use Rattle.thumb_disass.proofs.Lengths.{line-within}
+use Rattle.thumb_print.proofs.Lengths.{thumb-within}
+use Rattle.thumb_print.specs.Print.{thumbLine}
 use Rattle.thumb_lowest.specs.Read.{readThumb}
 
 -- a refusal has a number, and a line has room in 80 bytes

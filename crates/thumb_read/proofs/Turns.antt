@@ -1,6 +1,6 @@
 -- A turn of the loop over the rows of a mnemonic. Assumes nothing.
 use Prim.Native.Nat.{_+_, _-_, _<_, _^_, _≤_, min, suc, zero, ℕ}
-use borrow.Author.Tests.{eq-eqb, eqb-false, eqb-true, ne-eqb}
+use borrow.Author.Tests.{eq-eqb, eqb-false, eqb-true, lt-ltb, ne-eqb}
 use lib.Dec.{eqb}
 use lib.ListN.{drop, drop-of-length-le, getD, length, take}
 use lib.Seq.{drop-cons}
@@ -16,9 +16,10 @@ use Rattle.common.specs.Lists.{find, first, same}
 use Rattle.reading.specs.Read.{isLine}
 use Rattle.text.proofs.Packed.{Bytes}
 use Rattle.text.specs.Word.{isGap, packed, word}
-use Rattle.thumb_disass.specs.Print.{thumbLine}
+use Rattle.thumb_print.specs.Print.{thumbLine}
 use Rattle.thumb_lowest.proofs.Steps.{candidateAt, from-fails, from-first, from-other, from-prints, from-unsuited, readFrom, row-number}
-use Rattle.thumb_lowest.specs.Candidate.{codes, nextRow, rowAt, rows, suits}
+use Rattle.thumb_mnemonic.specs.Rows.{codes, nextRow, rowAt, rows}
+use Rattle.thumb_candidate.specs.Candidate.{suits}
 use Rattle.thumb_lowest.specs.Read.{readThumb}
 use Rattle.thumb_read.proofs.Printing.{read-le}
 
@@ -88,7 +89,7 @@ module _ (form : Form) (pc : ℕ) (l : List ℕ) (h : Bytes l) (n : ℕ) (e : n 
   first-lands = rw zero-add at (lands 70 0 refl)
 
   pub next-lands : (i : ℕ) → i < 70 → getD codes i 0 ≡ n → Lands (i + 1) (nextRow i)
-  next-lands i b q = rw q (lands (70 - (i + 1)) (i + 1) (omega arith))
+  next-lands i b q = rw (lt-ltb i 70 b, q) (lands (70 - (i + 1)) (i + 1) (omega arith))
 
 pub before-all : (form : Form) (pc : ℕ) (l : List ℕ) → readThumb form pc l ≡ min (2 ^ 16) (readFrom form pc l 0)
 before-all form pc l = let e = from-first form pc l in let m = read-le form pc l in omega arith

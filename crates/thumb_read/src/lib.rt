@@ -3,31 +3,25 @@ ghost use mathlib.Core.Path.{_≡_};
 ghost use mathlib.Core.Bool.{cond};
 ghost use Prim.Native.Nat.{_≤_, _^_, min};
 ghost use Rattle.reading.specs.Read.{isLine};
-ghost use Rattle.text.specs.Word.{after};
-ghost use Rattle.thumb_disass.specs.Print.{thumbLine};
-ghost use Rattle.thumb_lowest.specs.Candidate.{candidate, suits};
+ghost use Rattle.thumb_print.specs.Print.{thumbLine};
+ghost use Rattle.thumb_candidate.specs.Candidate.{candidate, suits};
 ghost use Rattle.thumb_lowest.specs.Read.{readThumb};
 ghost use Rattle.thumb_read.specs.Answer.{readAnswer};
-ghost use Rattle.thumb_read.specs.Regs.{Named};
+ghost use Rattle.thumb_candidate.specs.Regs.{Taken};
 use arm7tdmi::Form;
-use operands::candidate_of;
-use operands::suits;
-use parts::Regs;
-use parts::register;
-use rows::Row;
-use rows::first_row;
-use rows::row_at;
 use text::put::part;
 use text::read::equal;
 use text::read::first_word;
 use text::read::next_word;
 use text::read::pack;
-use thumb_disass::print_thumb;
-
-mod fields;
-mod operands;
-mod parts;
-mod rows;
+use thumb_candidate::operands::candidate_of;
+use thumb_candidate::operands::suits;
+use thumb_candidate::parts::Regs;
+use thumb_candidate::parts::register;
+use thumb_mnemonic::Row;
+use thumb_mnemonic::first_row;
+use thumb_mnemonic::row_at;
+use thumb_print::print_thumb;
 
 // The word that was read, or that no word prints the line.
 pub enum ThumbRead {
@@ -74,10 +68,10 @@ fn better(
     two: &[u8],
     three: &[u8],
 ) -> u32
-    requires { ⌜ (best ≤ 2 ^ 16) × (now one ≡ after (now line)) × (now two ≡ after (after (now line))) × (now three ≡ after (after (after (now line)))) × Named regs (now line) ⌝ }
-    ensures { λ r. ⌜ r ≡ min best (cond (suits (row .1) (now (line .entry))) (cond (isLine (thumbLine form pc (candidate form pc (now (line .entry)) (row .1) (row .0))) (now (line .entry))) (candidate form pc (now (line .entry)) (row .1) (row .0)) (2 ^ 16)) (2 ^ 16)) ⌝ }
+    requires { ⌜ (best ≤ 2 ^ 16) × Taken regs (now one) (now two) (now three) (now line) ⌝ }
+    ensures { λ r. ⌜ r ≡ min best (cond (suits (row .kind) (now (line .entry))) (cond (isLine (thumbLine form pc (candidate form pc (now (line .entry)) (row .kind) (row .bits))) (now (line .entry))) (candidate form pc (now (line .entry)) (row .kind) (row .bits)) (2 ^ 16)) (2 ^ 16)) ⌝ }
 {
-    let fmt = row.1;
+    let fmt = row.kind;
     if suits(fmt, regs) {
         let word = candidate_of(form, pc, row, line, regs, one, two, three);
         return lower(form, pc, word, best, line);
@@ -93,13 +87,17 @@ fn lowest_of(form: Form, pc: u32, line: &[u8]) -> u32
     let one = next_word(line);
     let two = next_word(one);
     let three = next_word(two);
-    let regs = Regs(register(one), register(two), register(three));
+    let regs = Regs {
+        first: register(one),
+        second: register(two),
+        third: register(three),
+    };
     let mut best: u32 = 0x1_0000;
     let mut i = first_row(n);
     while i < 70 {
         let row = row_at(i);
         best = better(form, pc, row, best, line, regs, one, two, three);
-        i = row.2;
+        i = row.next;
     }
     best
 }

@@ -10,12 +10,13 @@ use mathlib.Core.List.{List, [], _∷_}
 use mathlib.Core.Path.{_∙_, _≡_, ap, ap₂, refl, subst, sym}
 use native.Mathlib.Nat.{mod-eq-of-lt}
 use native.Mathlib.Omega.{arith}
-use Rattle.arm7tdmi.specs.Kinds.{firstMatch, thumbFormat, thumbNumber, thumbRows}
+use Rattle.arm7tdmi.specs.Kinds.{firstMatch}
+use Rattle.thumb.specs.Kinds.{thumbFormat, thumbNumber, thumbRows}
 use Rattle.arm7tdmi.specs.declared.Form.{Form}
 use Rattle.arm7tdmi.specs.declared.Form.the-variants.{Bench, Sheet}
-use Rattle.arm7tdmi.specs.declared.thumb.ThumbRow.{ThumbRow}
-use Rattle.arm7tdmi.specs.declared.thumb.ThumbFormat.{ThumbFormat}
-use Rattle.arm7tdmi.specs.declared.thumb.ThumbFormat.the-variants as H
+use Rattle.thumb.specs.declared.ThumbRow.{ThumbRow}
+use Rattle.thumb.specs.declared.ThumbFormat.{ThumbFormat}
+use Rattle.thumb.specs.declared.ThumbFormat.the-variants as H
 use Rattle.common.proofs.Tests.{and-left, and-right, at, every}
 use Rattle.thumb_words.proofs.Parts.{Below, Each, Fits, Part, Shaped, bits, cut, each, field, fits-cut, fixed, free, lower, reads, shaped-tops, sound, tops, tops-shaped, word, word-cut, word-lt}
 
@@ -43,7 +44,7 @@ module _ {R K : Type 0} (mask value : R → ℕ) (kind : R → K) (other : K) (s
 
 pub thumb-top : (form : Form) (w : ℕ) → thumbFormat form w ≡ thumbFormat form (w / 2 ^ 8 * 2 ^ 8)
 unfolding thumbRows
-thumb-top form w = first-high (λ (r : ThumbRow). r .0) (λ (r : ThumbRow). r .1) (λ (r : ThumbRow). r .2) H.Undefined 8 (thumbRows form) w (omega arith)
+thumb-top form w = first-high (λ (r : ThumbRow). r .mask) (λ (r : ThumbRow). r .value) (λ (r : ThumbRow). r .kind) H.Undefined 8 (thumbRows form) w (omega arith)
 
 -- what is tested of all top bytes holds of each word's
 pub at-top : (f : ℕ → Bool) → every f 256 ≡ true → (w : ℕ) → w < 2 ^ 16 → f (w / 2 ^ 8) ≡ true

@@ -7,11 +7,11 @@ use mathlib.Core.Bool.{Bool, _&&_, cond, false, true, true≢false}
 use mathlib.Core.List.{List, [], _++_, _∷_}
 use mathlib.Core.Path.{_∙_, _≡_, ap, refl, sym}
 use native.Mathlib.Omega.{arith}
-use Rattle.arm7tdmi.specs.Kinds.{thumbFirst, thumbFormat, thumbNumber, thumbRows}
+use Rattle.thumb.specs.Kinds.{thumbFirst, thumbFormat, thumbNumber, thumbRows}
 use Rattle.arm7tdmi.specs.declared.Form.{Form}
 use Rattle.arm7tdmi.specs.declared.Form.the-variants.{Bench, Sheet}
-use Rattle.arm7tdmi.specs.declared.thumb.ThumbRow.{ThumbRow}
-use Rattle.arm7tdmi.specs.declared.thumb.ThumbFormat.the-variants as H
+use Rattle.thumb.specs.declared.ThumbRow.{ThumbRow}
+use Rattle.thumb.specs.declared.ThumbFormat.the-variants as H
 use Rattle.common.proofs.Tests.{at-not, by-test, every}
 use Rattle.thumb_words.proofs.Laws.{at-top, equal, equal-is, first-high, same-kind, thumb-top}
 
@@ -78,7 +78,7 @@ same-tops = refl
 
 rust-top : (w : ℕ) → thumbFirst rustRows w ≡ thumbFirst rustRows (w / 2 ^ 8 * 2 ^ 8)
 unfolding rustRows thumbRows
-rust-top w = first-high (λ (r : ThumbRow). r .0) (λ (r : ThumbRow). r .1) (λ (r : ThumbRow). r .2) H.Undefined 8 rustRows w (omega arith)
+rust-top w = first-high (λ (r : ThumbRow). r .mask) (λ (r : ThumbRow). r .value) (λ (r : ThumbRow). r .kind) H.Undefined 8 rustRows w (omega arith)
 
 -- a bench word's kind is that by the Rust's rows
 pub bench-rust : (w : ℕ) → w < 2 ^ 16 → thumbFirst rustRows w ≡ thumbFormat Bench w

@@ -5,26 +5,30 @@ use mathlib.Core.Path.{_≡_, _∙_, refl}
 use Prim.Native.Nat.{_^_}
 use native.Mathlib.Omega.{arith}
 use Rattle.arm7tdmi.specs.Alu.{aluOpCode, barrelShiftOpCode}
-use Rattle.arm7tdmi.specs.Arm as Arm
-use Rattle.arm7tdmi.specs.Kinds.{armRows, thumbRows}
+use Rattle.arm.specs.Fields as Arm
+use Rattle.arm.specs.Kinds.{armRows}
+use Rattle.thumb.specs.Kinds.{thumbRows}
 use Rattle.arm7tdmi.specs.Names.{condNamed, condNames, condText, regNamed, regNames, regString}
-use Rattle.arm7tdmi.specs.Pieces.{regAt, condAt, either, ifSet, setBits, registers, listed}
+use Rattle.lines.specs.Pieces.{regAt, condAt, either, ifSet, setBits, registers, listed}
 use Rattle.arm7tdmi.specs.Signed.{extended}
-use Rattle.arm7tdmi.specs.Thumb as Thumb
+use Rattle.thumb.specs.Fields as Thumb
 use Rattle.arm_disass.specs.Line as ALine
-use Rattle.arm_disass.specs.Print as APrint
+use Rattle.arm_operand.specs.Operand as AOperand
+use Rattle.arm7tdmi.specs.Cond.{armCond}
+use Rattle.arm_print.specs.Print as APrint
 use Rattle.common.specs.Lists.{first, same}
 use Rattle.text.specs.Digits.{digitValue, digits, hex, prefixed, dec, valueFrom}
 use Rattle.thumb_disass.specs.Line as TLine
-use Rattle.thumb_disass.specs.Print as TPrint
+use Rattle.thumb_operand.specs.Operand as TOperand
+use Rattle.thumb_print.specs.Print as TPrint
 use Rattle.arm7tdmi.specs.declared.Form.{Form}
 use Rattle.arm7tdmi.specs.declared.Form.the-variants.{Bench, Sheet}
 use Rattle.arm_lowest.proofs.Read.{read-arm}
-use Rattle.arm_lowest.specs.Candidate.{candidate}
-use Rattle.arm_lowest.specs.CandidateDataProcessing.{dpCand, dpFrom}
-use Rattle.arm_lowest.specs.CandidateOperand.{immediateOf, operandOf, rotationOf, shiftNamed, shiftNames, shiftedOf}
-use Rattle.arm_lowest.specs.CandidateSimple.{undefinedCand}
-use Rattle.arm_lowest.specs.Heads.{condOf, headOf, stemNames, stemOf, stems}
+use Rattle.arm_candidate.specs.Candidate.{candidate}
+use Rattle.arm_candidate.specs.CandidateDataProcessing.{dpCand, dpFrom}
+use Rattle.arm_candidate.specs.CandidateOperand.{immediateOf, operandOf, rotationOf, shiftNamed, shiftNames, shiftedOf}
+use Rattle.arm_candidate.specs.CandidateSimple.{undefinedCand}
+use Rattle.arm_mnemonic.specs.Heads.{condOf, headOf, stemNames, stemOf, stems}
 use Rattle.reading.specs.Read.{isLine}
 use Rattle.text.specs.Word as Words
 use Rattle.worked.specs.Worked.{Input, Output, Row, arm, gives, givenRow, printed, read, table, thumb, word}
@@ -45,7 +49,7 @@ rows-law [] = refl
 rows-law (r ∷ l) = rw (law Bench (r .input), law Sheet (r .input), rows-law l)
 
 computed : map (givenRow byLaw) table ≡ table
-unfolding aluOpCode barrelShiftOpCode Arm.armCond Arm.halfwordType Arm.branchOffset Arm.branchTarget Arm.bsOp Arm.shiftRegBy Arm.operand2 Arm.addedOf Arm.signedOffset Arm.ldrStrOffset armRows thumbRows regNames regString condNames condText regAt condAt either ifSet setBits registers listed extended Thumb.opFormat5 Thumb.sword7 ALine.opText ALine.byAmount ALine.shiftBy ALine.shiftedRegister ALine.bxCond ALine.fmtBx ALine.fmtBranch ALine.fmtOperand2 ALine.rdText ALine.fmtThree ALine.fmtOpcode ALine.fmtDataProcessing ALine.benchOffset ALine.magnitude ALine.sheetOffset ALine.immediateOffset ALine.signText ALine.signedRegister ALine.offsetText ALine.indexed ALine.commented ALine.valueComment ALine.comment ALine.fmtRnOffset ALine.userMark ALine.fmtLdrStr APrint.lineOf APrint.answerOf APrint.armLine first digits hex prefixed dec TLine.op5Text TLine.highDst TLine.dstReg TLine.srcReg TLine.dstAndSrc TLine.highOperands TLine.fmtThumbHighRegOpOrBx TLine.spSize TLine.spBits TLine.sheetSpOffset TLine.spOffset TLine.fmtThumbAddSp TLine.baseText TLine.fmtThumbLdmStm TPrint.lineOf TPrint.thumbLine candidate dpCand dpFrom undefinedCand condOf headOf stemNames stemOf stems same regNamed condNamed digitValue valueFrom Words.isWord Words.word Words.behind Words.after Words.has ALine.fmtTest ALine.immediate ALine.decodedText immediateOf operandOf rotationOf shiftNamed shiftNames shiftedOf
+unfolding aluOpCode barrelShiftOpCode armCond Arm.halfwordType Arm.branchOffset Arm.branchTarget Arm.bsOp Arm.shiftRegBy Arm.operand2 Arm.addedOf Arm.signedOffset Arm.ldrStrOffset armRows thumbRows regNames regString condNames condText regAt condAt either ifSet setBits registers listed extended Thumb.opFormat5 Thumb.sword7 ALine.opText AOperand.byAmount AOperand.shiftBy AOperand.shiftedRegister ALine.bxCond ALine.fmtBx ALine.fmtBranch AOperand.fmtOperand2 AOperand.rdText ALine.fmtThree ALine.fmtOpcode ALine.fmtDataProcessing AOperand.benchOffset AOperand.magnitude AOperand.sheetOffset AOperand.immediateOffset AOperand.signText AOperand.signedRegister AOperand.offsetText AOperand.indexed AOperand.commented AOperand.valueComment AOperand.comment AOperand.fmtRnOffset ALine.userMark ALine.fmtLdrStr ALine.lineOf APrint.answerOf APrint.armLine first digits hex prefixed dec TLine.op5Text TOperand.highDst TOperand.dstReg TOperand.srcReg TOperand.dstAndSrc TOperand.highOperands TLine.fmtThumbHighRegOpOrBx TOperand.spSize TOperand.spBits TOperand.sheetSpOffset TOperand.spOffset TLine.fmtThumbAddSp TOperand.baseText TLine.fmtThumbLdmStm TLine.lineOf TPrint.thumbLine candidate dpCand dpFrom undefinedCand condOf headOf stemNames stemOf stems same regNamed condNamed digitValue valueFrom Words.isWord Words.word Words.behind Words.after Words.has ALine.fmtTest AOperand.immediate AOperand.decodedText immediateOf operandOf rotationOf shiftNamed shiftNames shiftedOf
 computed = refl
 
 pub worked : map (givenRow gives) table ≡ table

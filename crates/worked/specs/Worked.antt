@@ -3,12 +3,12 @@ use mathlib.Core.List.{List, [], _∷_}
 use Prim.Native.Nat.{ℕ}
 use Prim.Native.String.{String}
 use Rattle.text.specs.Text.{text}
-use Rattle.arm7tdmi.specs.Answer.{Answer, refused, line}
+use Rattle.lines.specs.Answer.{Answer, refused, line}
 use Rattle.arm7tdmi.specs.declared.Form.{Form}
 use Rattle.arm7tdmi.specs.declared.Form.the-variants.{Bench, Sheet}
-use Rattle.arm_disass.specs.Print.{armLine}
+use Rattle.arm_print.specs.Print.{armLine}
 use Rattle.arm_lowest.specs.Read.{readArm}
-use Rattle.thumb_disass.specs.Print.{thumbLine}
+use Rattle.thumb_print.specs.Print.{thumbLine}
 
 -- "A row ending in "read" gives a line to be read, any other a word to be printed": a word and its address, or a line
 pub data Input : Type 0 where

@@ -1,6 +1,6 @@
 // The worked lines and the traps of the scope paper, through the public operations: how many answers differ from it.
 ghost use Prim.Native.Nat.{_≤_};
-use arm_disass::print_arm;
+use arm_print::print_arm;
 use arm_read::ArmRead;
 use arm_read::read_arm;
 use arm7tdmi::Form;
@@ -9,7 +9,7 @@ use text::put::part;
 use text::put::put_dec;
 use text::put::put_text;
 use text::read::equal;
-use thumb_disass::print_thumb;
+use thumb_print::print_thumb;
 use thumb_read::ThumbRead;
 use thumb_read::read_thumb;
 

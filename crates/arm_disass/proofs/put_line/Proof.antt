@@ -1,6 +1,6 @@
 -- `arm_disass::put_line` meets its contract: what it writes is what its calls write, one after the other. Assumes nothing.
 use borrow.Author.Needs.{needs}
-use Rattle.arm_disass.specs.Print.{lineOf}
+use Rattle.arm_disass.specs.Line.{lineOf}
 use Rattle.text.proofs.Wrote.{kept}
 use Rattle.arm_disass.proofs.put_line.Statement.{statement}
 use Rattle.arm_disass.proofs.put_line.Tie as tie

@@ -4,7 +4,7 @@ use denote.Ref.{now}
 use lib.ListN.{length-take}
 use mathlib.Core.Path.{_∙_}
 use native.Mathlib.Omega.{arith}
-use Rattle.arm_disass.specs.Print.{armLine}
+use Rattle.arm_print.specs.Print.{armLine}
 use Rattle.arm_read.proofs.Lines.{arm-sound, printed-line, printed-number}
 use Rattle.arm_read.proofs.prints.Statement.{statement}
 use Rattle.arm_read.proofs.prints.Tie as tie

@@ -3,8 +3,8 @@ use borrow.Author.Needs.{needs}
 use denote.Ref.{now}
 use mathlib.Core.Path.{_∙_, ap}
 use native.Mathlib.Omega.{arith}
-use Rattle.arm_disass.specs.Print.{armLine}
-use Rattle.arm_lowest.specs.Candidate.{candidate}
+use Rattle.arm_print.specs.Print.{armLine}
+use Rattle.arm_candidate.specs.Candidate.{candidate}
 use Rattle.arm_read.proofs.Lines.{arm-sound, not-line, nothing-read, word-read}
 use Rattle.arm_read.specs.declared.ArmRead.the-variants.{Word}
 use Rattle.arm_read.proofs.read_arm.Statement.{statement}

@@ -1,7 +1,7 @@
 -- `modestsilk::silk_kind_arm` meets its contract. Assumes nothing.
 use borrow.Author.Needs.{needs}
 use mathlib.Core.Path.{_∙_, ap}
-use Rattle.arm7tdmi.specs.Kinds.{armFormat, armNumber}
+use Rattle.arm.specs.Kinds.{armFormat, armNumber}
 use Rattle.arm7tdmi.specs.declared.Form.{Form}
 use Rattle.modestsilk.proofs.silk_kind_arm.Statement.{statement}
 use Rattle.modestsilk.proofs.silk_kind_arm.Tie as tie

@@ -1,7 +1,7 @@
 -- `modestsilk::silk_kind_thumb` meets its contract. Assumes nothing.
 use borrow.Author.Needs.{needs}
 use mathlib.Core.Path.{_∙_, ap}
-use Rattle.arm7tdmi.specs.Kinds.{thumbFormat, thumbNumber}
+use Rattle.thumb.specs.Kinds.{thumbFormat, thumbNumber}
 use Rattle.arm7tdmi.specs.declared.Form.{Form}
 use Rattle.modestsilk.proofs.silk_kind_thumb.Statement.{statement}
 use Rattle.modestsilk.proofs.silk_kind_thumb.Tie as tie

@@ -2,7 +2,7 @@
 use borrow.Author.Needs.{needs}
 use mathlib.Core.Path.{refl}
 use Rattle.arm7tdmi.specs.declared.Form.the-variants.{Bench}
-use Rattle.arm_disass.specs.Print.{armLine}
+use Rattle.arm_print.specs.Print.{armLine}
 use Rattle.row.proofs.Answers.{arm-whole, shown-answer}
 use Rattle.text.proofs.Wrote.{same-as}
 use Rattle.row.proofs.put_arm.Statement.{statement}

@@ -4,7 +4,7 @@ use mathlib.Core.Path.{refl}
 use Rattle.arm7tdmi.specs.declared.Form.the-variants.{Bench}
 use Rattle.row.proofs.Answers.{shown-answer, thumb-whole}
 use Rattle.text.proofs.Wrote.{same-as}
-use Rattle.thumb_disass.specs.Print.{thumbLine}
+use Rattle.thumb_print.specs.Print.{thumbLine}
 use Rattle.row.proofs.put_thumb.Statement.{statement}
 use Rattle.row.proofs.put_thumb.Tie as tie
 

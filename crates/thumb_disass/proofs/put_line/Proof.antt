@@ -1,7 +1,7 @@
 -- `thumb_disass::put_line` meets its contract: what it writes is what its calls write, one after the other. Assumes nothing.
 use borrow.Author.Needs.{needs}
 use Rattle.text.proofs.Wrote.{kept}
-use Rattle.thumb_disass.specs.Print.{lineOf}
+use Rattle.thumb_disass.specs.Line.{lineOf}
 use Rattle.thumb_disass.proofs.put_line.Statement.{statement}
 use Rattle.thumb_disass.proofs.put_line.Tie as tie
 

@@ -2,7 +2,7 @@
 use Prim.Native.Nat.{_≤_}
 use Rattle.common.proofs.Tests.{by-test}
 use Rattle.reading.specs.Read.{isLine}
-use Rattle.thumb_disass.specs.Print.{thumbLine}
+use Rattle.thumb_print.specs.Print.{thumbLine}
 use borrow.Author.Needs.{needs}
 use denote.Ref.{now}
 use mathlib.Core.Bool.{false, true}

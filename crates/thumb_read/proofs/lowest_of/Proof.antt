@@ -5,7 +5,7 @@ use Rattle.common.specs.Lists.{find}
 use Rattle.text.proofs.Packed.{Bytes}
 use Rattle.text.specs.Word.{after, packed, word}
 use Rattle.thumb_lowest.proofs.Steps.{from-out, readFrom}
-use Rattle.thumb_lowest.specs.Candidate.{codes}
+use Rattle.thumb_mnemonic.specs.Rows.{codes}
 use Rattle.thumb_lowest.specs.Read.{readThumb}
 use Rattle.thumb_read.proofs.Turns.{before-all, first-lands, foundAt, next-lands, turn-found}
 use borrow.Author.Needs.{needs}
@@ -36,9 +36,6 @@ loop-holds c =
     let e : find (q .before .before .before .before .before .before .before .pack .result) codes ≡ c .first-row .result = sym (c .first-row .ensures) in
     rw (← e) (g .most, omega arith, before-all f pc l ∙ rw (g .skips), g .name)
 
-row-at-requires : tie.Need-row-at-requires Inv-loop μ-loop
-row-at-requires c κs = c .loop-test .taken
-
 better-requires : tie.Need-better-requires Inv-loop μ-loop
 better-requires c κs =
     let q = c .before .before .before in
@@ -46,7 +43,7 @@ better-requires c κs =
     let two = q .before .before .before .before .before .next-word2 .ensures ∙ ap after one in
     let three = q .before .before .before .before .next-word3 .ensures ∙ ap after two in
     let named : List ℕ → ℕ = λ t. regNamed (word t) in
-    (c .before .before .loop .inv .1, one, two, three, (q .before .before .before .register .ensures ∙ ap named one, q .before .before .register2 .ensures ∙ ap named two, q .before .register3 .ensures ∙ ap named three))
+    (c .before .before .loop .inv .1, (one, two, three, (q .before .before .before .register .ensures ∙ ap named one, q .before .before .register2 .ensures ∙ ap named two, q .before .register3 .ensures ∙ ap named three)))
 
 loop-less : tie.Need-loop-less Inv-loop μ-loop
 loop-less c =
@@ -91,4 +88,4 @@ returns c =
     omega arith
 
 pub lowest-of-spec : {M : Type 1} → statement M
-lowest-of-spec = tie.close (tie.spec Inv-loop μ-loop (λ c κs. search needs) (λ c κs. search needs) (λ c κs. search needs) (λ c κs. search needs) (λ c κs. search needs) (λ c κs. search needs) (λ c κs. search needs) (λ c κs. search needs) (λ c κs. search needs) loop-holds row-at-requires better-requires loop-less loop-again returns)
+lowest-of-spec = tie.close (tie.spec Inv-loop μ-loop (λ c κs. search needs) (λ c κs. search needs) (λ c κs. search needs) (λ c κs. search needs) (λ c κs. search needs) (λ c κs. search needs) (λ c κs. search needs) (λ c κs. search needs) (λ c κs. search needs) loop-holds (λ c κs. search needs) better-requires loop-less loop-again returns)

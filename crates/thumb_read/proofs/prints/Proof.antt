@@ -2,7 +2,7 @@
 use borrow.Author.Needs.{needs}
 use denote.Ref.{now}
 use mathlib.Core.Path.{refl}
-use Rattle.thumb_disass.specs.Print.{thumbLine}
+use Rattle.thumb_print.specs.Print.{thumbLine}
 use Rattle.thumb_read.proofs.Printing.{none-printed, same-printed, thumb-whole}
 use Rattle.thumb_read.proofs.prints.Statement.{statement}
 use Rattle.thumb_read.proofs.prints.Tie as tie

@@ -1,6 +1,6 @@
 -- `arm_disass::disass::fmt_ldm_stm` meets its contract: what it writes is what its calls write, one after the other. Assumes nothing.
 use borrow.Author.Needs.{needs}
-use Rattle.text.proofs.Wrote.{_⨾_, kept}
+use Rattle.text.proofs.Wrote.{_⨾_, _⨾⨾_, kept}
 use Rattle.arm_disass.specs.Line.{fmtLdmStm}
 use Rattle.arm_disass.proofs.disass.fmt_ldm_stm.Statement.{statement}
 use Rattle.arm_disass.proofs.disass.fmt_ldm_stm.Tie as tie
@@ -8,18 +8,17 @@ use Rattle.arm_disass.proofs.disass.fmt_ldm_stm.Tie as tie
 returns : tie.Need-returns
 unfolding fmtLdmStm
 returns c =
-    let c10 = c .before .before in
-    let c9 = c10 .before .before .before .before in
+    let c9 = c .before .before in
     let c8 = c9 .before .before .before .before in
     let c7 = c8 .before .before .before .before in
-    let c6 = c7 .before .before .before .before .before in
-    let c5 = c6 .before .before .before .before in
+    let c6 = c7 .before .before .before .before in
+    let c5 = c6 .before .before .before .before .before in
     let c4 = c5 .before .before .before .before in
     let c3 = c4 .before .before .before .before in
     let c2 = c3 .before .before .before .before in
     let c1 = c2 .before .before .before .before .before .before in
     let c0 = c1 .before .before .before .before .before .before in
-    c0 .put-either .ensures ⨾ c1 .put-either2 .ensures ⨾ c2 .put-either3 .ensures ⨾ c3 .put-cond-at .ensures ⨾ c4 .put-byte .ensures ⨾ c5 .put-reg-at .ensures ⨾ c6 .put-mark .ensures ⨾ c7 .put-text .ensures ⨾ c8 .put-registers .ensures ⨾ c9 .put-byte2 .ensures ⨾ c10 .put-mark2 .ensures
+    c0 .put-either .ensures ⨾ c1 .put-either2 .ensures ⨾ c2 .put-either3 .ensures ⨾⨾ c3 .put-cond-tab .ensures ⨾ c4 .put-reg-at .ensures ⨾ c5 .put-mark .ensures ⨾ c6 .put-text .ensures ⨾ c7 .put-registers .ensures ⨾ c8 .put-byte .ensures ⨾ c9 .put-mark2 .ensures
 
 pub fmt-ldm-stm-spec : {M : Type 1} → statement M
-fmt-ldm-stm-spec = tie.close (tie.spec (λ c. search needs) (λ c. search needs) (λ c κs. search needs) (λ c. search needs) (λ c. search needs) (λ c κs. search needs) (λ c. search needs) (λ c. search needs) (λ c κs. search needs) (λ c κs. search needs) (λ c κs. search needs) (λ c κs. search needs) (λ c κs. search needs) (λ c. search needs) (λ c κs. search needs) (λ c κs. search needs) (λ c κs. search needs) (λ c κs. search needs) (λ c. kept (returns c)) returns)
+fmt-ldm-stm-spec = tie.close (tie.spec (λ c. search needs) (λ c. search needs) (λ c κs. search needs) (λ c. search needs) (λ c. search needs) (λ c κs. search needs) (λ c. search needs) (λ c. search needs) (λ c κs. search needs) (λ c κs. search needs) (λ c κs. search needs) (λ c κs. search needs) (λ c. search needs) (λ c κs. search needs) (λ c κs. search needs) (λ c κs. search needs) (λ c κs. search needs) (λ c. kept (returns c)) returns)

@@ -2,7 +2,7 @@
 use borrow.Author.Needs.{needs}
 use Rattle.text.proofs.Wrote.{_⨾_, kept, same-as}
 use Rattle.thumb_disass.specs.Line.{fmtThumbPushPop}
-use Rattle.thumb_disass.proofs.PushPop.{push-pop-list}
+use Rattle.thumb_operand.proofs.PushPop.{push-pop-list}
 use Rattle.thumb_disass.proofs.disass.fmt_thumb_push_pop.Statement.{statement}
 use Rattle.thumb_disass.proofs.disass.fmt_thumb_push_pop.Tie as tie
 

@@ -1,0 +1,74 @@
+// Operand 2, and a shifted register as an offset.
+ghost use mathlib.Core.Path.{_≡_};
+ghost use Prim.Native.Nat.{_≤_, _<_, _^_};
+ghost use Rattle.arm_candidate.specs.CandidateOperand.{shiftNamed, byNamed, shiftedOf, immediateOf, operandOf};
+use crate::parts::decimal;
+use crate::parts::is_number;
+use crate::parts::register;
+use arm7tdmi::alu::rotate_right;
+use arm7tdmi::read_reg;
+use text::read::first_word;
+use text::read::next_word;
+use text::read::pack;
+use text::read::position;
+use text::read::read_dec;
+
+// The shifts' names, packed.
+const SHIFT_NAMES: [u64; 4] = [0x6c736c, 0x72736c, 0x727361, 0x726f72];
+
+// The shift that a word names, or 4.
+fn shift_named(w: &[u8]) -> u64
+    ensures { λ r. ⌜ (r ≡ shiftNamed (now (w .entry))) × (r ≤ 4) ⌝ }
+{
+    position(&SHIFT_NAMES, pack(w)) as u64
+}
+
+// By how much: an amount of five bits, or a register.
+fn by_named(w: &[u8]) -> u64
+    ensures { λ r. ⌜ (r ≡ byNamed (now (w .entry))) × (r < 2 ^ 13) ⌝ }
+{
+    if is_number(w) {
+        return decimal(w) % 32 * 128;
+    }
+    16 + read_reg(w) as u64 * 256
+}
+
+// The twelve bits of the shifted register that a line begins with.
+pub fn shifted(l: &[u8]) -> u64
+    ensures { λ r. ⌜ (r ≡ shiftedOf (now (l .entry))) × (r < 2 ^ 14) ⌝ }
+{
+    let reg = register(l);
+    let behind = next_word(l);
+    let shift = first_word(behind);
+    if shift.len() == 0 {
+        return reg;
+    }
+    let by = first_word(next_word(behind));
+    reg + (shift_named(shift) * 32 + by_named(by))
+}
+
+// The twelve bits of the lowest rotation that has a value, or 0.
+fn immediate(v: u32) -> u64
+    ensures { λ r. ⌜ (r ≡ immediateOf v) × (r < 2 ^ 12) ⌝ }
+{
+    let mut r: u32 = 0;
+    while r < 16 {
+        let byte = rotate_right(v, 32 - 2 * r);
+        if byte < 256 {
+            return (r * 256 + byte) as u64;
+        }
+        r += 1;
+    }
+    0
+}
+
+// The operand 2 that a line begins with: bit 25, and the twelve bits.
+pub fn operand(l: &[u8]) -> u64
+    ensures { λ r. ⌜ (r ≡ operandOf (now (l .entry))) × (r < 2 ^ 26) ⌝ }
+{
+    let w = first_word(l);
+    if is_number(w) {
+        return 0x0200_0000 + immediate(read_dec(w));
+    }
+    shifted(l)
+}

@@ -1,0 +1,137 @@
+-- The operands of ARM lines that are more than a field, by the Rust's arm/disass.rs, with its formats beside them. The form stands where the sheet line
+-- differs: S1 and S4 of document 01. Assumes nothing.
+use mathlib.Core.Bool.{Bool, false, cond, true}
+use mathlib.Core.List.{List, [], _++_}
+use Prim.Native.Nat.{ℕ, _-_, _%_, _^_}
+use lib.Dec.{eqb}
+use Rattle.common.specs.Bits.{bit, bitRange}
+use Rattle.text.specs.Text.{text}
+use Rattle.text.specs.Digits.{dec, prefixed}
+use Rattle.arm7tdmi.specs.Names.{regString}
+use Rattle.lines.specs.Pieces.{regAt, ifSet, either}
+use Rattle.arm7tdmi.specs.Alu.{decodeRotatedImmediate}
+use Rattle.arm.specs.Fields.{pcRelative}
+use Rattle.arm7tdmi.specs.declared.Form.{Form}
+use Rattle.arm7tdmi.specs.declared.Form.the-variants.{Bench, Sheet}
+use Rattle.arm7tdmi.specs.declared.alu.BarrelShiftOpCode.{BarrelShiftOpCode}
+use Rattle.arm7tdmi.specs.declared.alu.BarrelShiftOpCode.the-variants as Shift
+use Rattle.arm7tdmi.specs.declared.alu.ShiftRegisterBy.{ShiftRegisterBy}
+use Rattle.arm7tdmi.specs.declared.alu.ShiftRegisterBy.the-variants as By
+use Rattle.arm7tdmi.specs.declared.alu.Sign.{Sign}
+use Rattle.arm7tdmi.specs.declared.alu.Sign.the-variants as S
+use Rattle.arm7tdmi.specs.declared.alu.ShiftedRegister.{ShiftedRegister}
+use Rattle.arm7tdmi.specs.declared.alu.BarrelShifterValue.{BarrelShifterValue}
+use Rattle.arm7tdmi.specs.declared.alu.BarrelShifterValue.the-variants as Value
+use Rattle.arm7tdmi.specs.declared.alu.Decoded.{Decoded}
+use Rattle.arm7tdmi.specs.declared.alu.Decoded.the-variants as D
+
+-- ---- BarrelShiftOpCode
+unfoldable pub shiftText : BarrelShiftOpCode → List ℕ
+shiftText Shift.LSL = text "lsl"
+shiftText Shift.LSR = text "lsr"
+shiftText Shift.ASR = text "asr"
+shiftText Shift.ROR = text "ror"
+
+-- ---- ShiftedRegister: "{reg}, {bs_op} #{imm}", "{reg}, {bs_op} {rs}", and for LSL #0 "{reg}"
+abbrev pub isLsl0 : BarrelShiftOpCode → ℕ → Bool
+isLsl0 Shift.LSL n = eqb n 0
+isLsl0 Shift.LSR n = false
+isLsl0 Shift.ASR n = false
+isLsl0 Shift.ROR n = false
+
+unfoldable pub byAmount : BarrelShiftOpCode → ℕ → List ℕ
+byAmount op n = cond (isLsl0 op n) [] (text ", " ++ shiftText op ++ text " #" ++ dec n)
+
+unfoldable pub byRegister : BarrelShiftOpCode → ℕ → List ℕ
+byRegister op rs = text ", " ++ shiftText op ++ text " " ++ regString rs
+
+unfoldable pub shiftBy : BarrelShiftOpCode → ShiftRegisterBy → List ℕ
+shiftBy op (By.ByAmount n) = byAmount op n
+shiftBy op (By.ByRegister rs) = byRegister op rs
+
+unfoldable pub shiftedRegister : ShiftedRegister → List ℕ
+shiftedRegister s = regString (s .reg) ++ shiftBy (s .«bs_op») (s .«shift_by»)
+
+-- ---- fmt_operand2: "#{}\t; {:#x}", or the shifted register
+unfoldable pub immediate : ℕ → List ℕ
+immediate v = text "#" ++ dec v ++ text "\t; " ++ prefixed 1 v
+
+unfoldable pub decodedText : Decoded → List ℕ
+decodedText D.Nothing = []
+decodedText (D.Value v) = immediate v
+
+unfoldable pub fmtOperand2 : BarrelShifterValue → List ℕ
+fmtOperand2 (Value.ImmediateValue v) = []
+fmtOperand2 (Value.RotatedImmediate v n) = decodedText (decodeRotatedImmediate (Value.RotatedImmediate v n))
+fmtOperand2 (Value.ShiftedRegister s) = shiftedRegister s
+
+-- ---- fmt_rn_offset: "[{Rn}", then ", {ofs}]{!}" or "], {ofs}", then the comment
+-- bench: "An immediate offset with U (bit 23) clear prints as unsigned 32-bit decimal".
+-- S4: "an ARM immediate offset with U clear prints `#-` and the magnitude, zero included"
+unfoldable pub benchOffset : ℕ → List ℕ
+benchOffset v = text "#" ++ dec v
+
+unfoldable pub magnitude : ℕ → ℕ
+magnitude v = (2 ^ 32 - v) % 2 ^ 32
+
+unfoldable pub sheetOffset : ℕ → ℕ → List ℕ
+sheetOffset raw v = cond (bit raw 23) (benchOffset v) (text "#-" ++ dec (magnitude v))
+
+unfoldable pub immediateOffset : Form → ℕ → ℕ → List ℕ
+immediateOffset Bench raw v = benchOffset v
+immediateOffset Sheet raw v = sheetOffset raw v
+
+-- "a register offset then has `-` before the register"
+unfoldable pub signText : Sign → List ℕ
+signText S.Added = []
+signText S.Subtracted = text "-"
+signText S.Unsaid = []
+
+unfoldable pub signedRegister : ShiftedRegister → List ℕ
+signedRegister s = signText (s .added) ++ shiftedRegister s
+
+unfoldable pub offsetText : Form → ℕ → BarrelShifterValue → List ℕ
+offsetText form raw (Value.ImmediateValue v) = immediateOffset form raw v
+offsetText form raw (Value.RotatedImmediate v n) = []
+offsetText form raw (Value.ShiftedRegister s) = signedRegister s
+
+unfoldable pub indexed : Form → ℕ → BarrelShifterValue → List ℕ
+indexed form raw o =
+    cond (bit raw 24) (text ", " ++ offsetText form raw o ++ text "]" ++ ifSet raw 21 (text "!")) (text "], " ++ offsetText form raw o)
+
+-- "The comment adds address + 8 when Rn is pc"
+unfoldable pub commented : ℕ → ℕ → ℕ → ℕ
+commented pc raw v = cond (eqb (bitRange raw 16 20) 15) (pcRelative pc v) v
+
+unfoldable pub valueComment : ℕ → ℕ → ℕ → List ℕ
+valueComment pc raw v = text "\t; " ++ prefixed 1 (commented pc raw v)
+
+unfoldable pub comment : ℕ → ℕ → BarrelShifterValue → List ℕ
+comment pc raw (Value.ImmediateValue v) = valueComment pc raw v
+comment pc raw (Value.RotatedImmediate v n) = []
+comment pc raw (Value.ShiftedRegister s) = []
+
+unfoldable pub fmtRnOffset : Form → ℕ → ℕ → BarrelShifterValue → List ℕ
+fmtRnOffset form pc raw o = text "[" ++ regAt raw 16 20 ++ indexed form raw o ++ comment pc raw o
+
+-- ---- Rd of data processing
+-- bench: "Data processing takes Rd from bits 19-16, as Rn". S1: "data processing takes Rd from bits 15-12"
+unfoldable pub rdText : Form → ℕ → List ℕ
+rdText Bench raw = regAt raw 16 20
+rdText Sheet raw = regAt raw 12 16
+
+-- ---- the flags that an immediate sets: "\t; N={} Z={} C={} V={}"
+unfoldable pub flagText : ℕ → ℕ → List ℕ
+flagText v n = either v n (text "true") (text "false")
+
+unfoldable pub flags : ℕ → List ℕ
+flags v =
+    text "\t; N=" ++ flagText v 31 ++ text " Z=" ++ flagText v 30 ++ text " C=" ++ flagText v 29 ++ text " V=" ++ flagText v 28
+
+unfoldable pub flagsComment : Decoded → List ℕ
+flagsComment D.Nothing = []
+flagsComment (D.Value v) = flags v
+
+-- ---- the register that mla adds: ", {Rn}"
+unfoldable pub addedRegister : ℕ → List ℕ
+addedRegister raw = cond (bit raw 21) (text ", " ++ regAt raw 12 16) []

@@ -1,0 +1,10 @@
+-- `thumb_candidate::parts::register` meets its contract. Assumes nothing.
+use borrow.Author.Needs.{needs}
+use Rattle.thumb_candidate.proofs.parts.register.Statement.{statement}
+use Rattle.thumb_candidate.proofs.parts.register.Tie as tie
+
+returns : tie.Need-returns
+returns c = rw (← c .before .first-word .ensures) (c .read-reg .ensures .0)
+
+pub register-spec : {M : Type 1} → statement M
+register-spec = tie.close (tie.spec (λ c κs. search needs) (λ c κs. search needs) (λ c. search needs) returns)

@@ -1,0 +1,2 @@
+pub mod PushPop
+pub mod Lengths
