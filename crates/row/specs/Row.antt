@@ -1,7 +1,7 @@
 -- What the row program answers for a row. Assumes nothing.
 use mathlib.Core.Bool.{Bool, cond, _&&_}
 use mathlib.Core.List.{List, _++_}
-use Prim.Native.Nat.{ℕ, _+_}
+use Prim.Native.Nat.{ℕ, _+_, _^_}
 use lib.Dec.{eqb, ltb}
 use lib.ListN.{length, take, drop, getD}
 use Rattle.text.specs.Text.{text}
@@ -11,14 +11,15 @@ use Rattle.lines.specs.Answer.{Answer, refused, line}
 use Rattle.arm7tdmi.specs.declared.Form.the-variants.{Bench}
 use Rattle.arm_print.specs.Print.{armLine}
 use Rattle.thumb_print.specs.Print.{thumbLine}
+use Rattle.row.specs.declared.Fields.{Fields}
+use Rattle.row.specs.declared.Fields.the-variants.{Both, Nothing}
+use Rattle.row.specs.declared.Word.{Word}
+use Rattle.row.specs.declared.Word.the-variants.{Arm, Thumb}
 
 -- "the bench line, or `!` and the refusal number"
 unfoldable pub answerText : Answer → List ℕ
 answerText (refused n) = text "!" ++ dec n
 answerText (line bs) = bs
-
-unfoldable pub shownText : ℕ → List ℕ → List ℕ
-shownText number bs = cond (eqb number 0) bs (text "!" ++ dec number)
 
 -- lowercase hexadecimal digits
 unfoldable pub isHex : List ℕ → Bool
@@ -40,3 +41,17 @@ unfoldable pub rowAnswer : List ℕ → List ℕ
 rowAnswer l =
     cond (isRow 97 8 l) (answerText (armLine Bench (value 16 (addressDigits l)) (value 16 (wordDigits 8 l))))
     (cond (isRow 116 4 l) (answerText (thumbLine Bench (value 16 (addressDigits l)) (value 16 (wordDigits 4 l)))) (text "!0"))
+
+-- ---- for the contracts of inner functions
+-- the number that digits write, and one that no digits write where a byte is none
+unfoldable pub hexNumber : List ℕ → ℕ
+hexNumber l = cond (isHex l) (value 16 l) (2 ^ 32)
+
+-- the address and the word of a row
+unfoldable pub fieldsOf : ℕ → ℕ → List ℕ → Fields
+fieldsOf letter n l = cond (isRow letter n l) (Both (value 16 (addressDigits l)) (value 16 (wordDigits n l))) Nothing
+
+-- what is printed for a word of either set
+unfoldable pub wordLine : ℕ → Word → Answer
+wordLine address (Arm w) = armLine Bench address w
+wordLine address (Thumb w) = thumbLine Bench address w

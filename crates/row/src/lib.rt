@@ -1,102 +1,138 @@
-// What the row program answers for a row.
+// What the row program answers: for a row, and (block) for a block of its input.
+ghost use mathlib.Core.List.{_++_};
 ghost use mathlib.Core.Path.{_≡_};
-ghost use Prim.Native.Nat.{_<_};
+ghost use Prim.Native.Nat.{_+_, _<_};
+ghost use lib.Dec.{leb};
+ghost use Rattle.text.specs.Text.{text};
+ghost use Rattle.text.specs.Digits.{dec};
 ghost use Rattle.text.specs.Wrote.{Wrote};
-ghost use Rattle.arm7tdmi.specs.declared.Form.the-variants.{Bench};
-ghost use Rattle.arm_print.specs.Print.{armLine};
-ghost use Rattle.thumb_print.specs.Print.{thumbLine};
-ghost use Rattle.row.specs.Row.{answerText, shownText, isHex, isRow, rowAnswer};
+ghost use Rattle.lines.specs.Answer.{printed};
+ghost use Rattle.row.specs.Row.{answerText, hexNumber, fieldsOf, wordLine, rowAnswer};
 use arm_print::print_arm;
 use arm7tdmi::Form;
+use lines::Printed;
 use text::put::part;
 use text::put::put_byte;
 use text::put::put_dec;
 use text::put::put_text;
 use text::read::digit_value;
-use text::read::read_hex;
 use thumb_print::print_thumb;
 
-// Whether all bytes are lowercase hexadecimal digits.
-fn is_hex(s: &[u8]) -> bool
-    ensures { λ r. ⌜ r ≡ isHex (now (s .entry)) ⌝ }
+pub mod block;
+
+// A word of one of the two sets.
+pub enum Word {
+    Arm(u32),
+    Thumb(u16),
+}
+
+// The address and the number of a row's word, or that it is no row of the set.
+enum Fields {
+    Both(u32, u32),
+    Nothing,
+}
+
+// The number that hexadecimal digits write, modulo 2^32, and 2^32 where a byte is no digit.
+fn hex_number(s: &[u8]) -> u64
+    ensures { λ r. ⌜ r ≡ hexNumber (now (s .entry)) ⌝ }
 {
+    let mut v: u64 = 0;
     let mut i = 0;
     while i < s.len() {
-        if digit_value(s[i]) < 16 {
-            i += 1;
-        } else {
-            return false;
+        let d = digit_value(s[i]);
+        if 16 <= d {
+            return 0x1_0000_0000;
         }
+        v = (v * 16 + d) % 0x1_0000_0000;
+        i += 1;
     }
-    true
+    v
 }
 
-// Whether a row is one of a set, whose words have n digits.
-fn is_row(s: &[u8], letter: u8, n: usize) -> bool
+// The fields of a row of a set, whose words have n digits.
+fn fields_of(s: &[u8], letter: u8, n: usize) -> Fields
     requires { ⌜ n < 16 ⌝ }
-    ensures { λ r. ⌜ r ≡ isRow letter n (now (s .entry)) ⌝ }
+    ensures { λ r. ⌜ r ≡ fieldsOf letter n (now (s .entry)) ⌝ }
 {
     if s.len() != 11 + n {
-        return false;
+        return Fields::Nothing;
     }
     if s[0] != letter {
-        return false;
+        return Fields::Nothing;
     }
     if s[1] != b' ' {
-        return false;
+        return Fields::Nothing;
     }
     if s[10] != b' ' {
-        return false;
+        return Fields::Nothing;
     }
-    if is_hex(part(s, 2, 8)) {
-        return is_hex(part(s, 11, n));
+    let address = hex_number(part(s, 2, 8));
+    let word = hex_number(part(s, 11, n));
+    if 0x1_0000_0000 <= address {
+        return Fields::Nothing;
     }
-    false
+    if 0x1_0000_0000 <= word {
+        return Fields::Nothing;
+    }
+    Fields::Both(address as u32, word as u32)
 }
 
-// What was printed into a buffer with room for any line: the line, or `!` and the number.
-fn put_printed(out: &mut [u8], number: u32, line: &[u8]) -> usize
-    ensures { λ r. ⌜ Wrote (now (out .entry)) 0 (shownText number (now (line .entry))) (now (out .exit)) r ⌝ }
+// Prints a word of either set.
+fn print_word(address: u32, word: Word, buf: &mut [u8]) -> Printed
+    ensures { λ r. ⌜ printed (wordLine address word) (now (buf .entry)) ≡ (r, now (buf .exit)) ⌝ }
 {
-    if number == 0 {
-        return put_text(out, 0, line);
+    match word {
+        Word::Arm(w) => print_arm(Form::Bench, w, address, buf),
+        Word::Thumb(w) => print_thumb(Form::Bench, w, address, buf),
     }
-    let at = put_byte(out, 0, b'!');
+}
+
+// `!` and a refusal's number.
+fn put_refusal(out: &mut [u8], at: usize, number: u32) -> usize
+    ensures { λ r. ⌜ Wrote (now (out .entry)) at (text "!" ++ dec number) (now (out .exit)) r ⌝ }
+{
+    let at = put_byte(out, at, b'!');
     put_dec(out, at, number)
 }
 
-// The answer for an ARM word.
-fn put_arm(out: &mut [u8], address: u32, word: u32) -> usize
-    ensures { λ r. ⌜ Wrote (now (out .entry)) 0 (answerText (armLine Bench address word)) (now (out .exit)) r ⌝ }
+// Whether any line fits from a place on.
+fn has_room(length: usize, at: usize) -> bool
+    ensures { λ r. ⌜ r ≡ leb (at + 80) length ⌝ }
 {
-    let mut line = [0u8; 80];
-    let p = print_arm(Form::Bench, word, address, &mut line);
-    let number = p.number;
-    let n = p.length;
-    put_printed(out, number, part(&line, 0, n))
+    if length < 80 {
+        return false;
+    }
+    at <= length - 80
 }
 
-// The answer for a Thumb word.
-fn put_thumb(out: &mut [u8], address: u32, word: u16) -> usize
-    ensures { λ r. ⌜ Wrote (now (out .entry)) 0 (answerText (thumbLine Bench address word)) (now (out .exit)) r ⌝ }
+// The answer for a word: straight into the output where any line fits, else by way of a copy.
+fn put_word(out: &mut [u8], at: usize, address: u32, word: Word) -> usize
+    ensures { λ r. ⌜ Wrote (now (out .entry)) at (answerText (wordLine address word)) (now (out .exit)) r ⌝ }
 {
+    if has_room(out.len(), at) {
+        let p = print_word(address, word, &mut out[at..]);
+        if p.number == 0 {
+            return at + p.length;
+        }
+        return put_refusal(out, at, p.number);
+    }
     let mut line = [0u8; 80];
-    let p = print_thumb(Form::Bench, word, address, &mut line);
-    let number = p.number;
-    let n = p.length;
-    put_printed(out, number, part(&line, 0, n))
+    let p = print_word(address, word, &mut line);
+    if p.number == 0 {
+        return put_text(out, at, part(&line, 0, p.length));
+    }
+    put_refusal(out, at, p.number)
 }
 
-// The answer for a row, into a buffer.
-pub fn answer_row(row: &[u8], out: &mut [u8]) -> usize
-    ensures { λ r. ⌜ Wrote (now (out .entry)) 0 (rowAnswer (now (row .entry))) (now (out .exit)) r ⌝ }
+// The answer for a row, from a place on.
+pub fn answer_row(row: &[u8], out: &mut [u8], at: usize) -> usize
+    ensures { λ r. ⌜ Wrote (now (out .entry)) at (rowAnswer (now (row .entry))) (now (out .exit)) r ⌝ }
 {
-    if is_row(row, b'a', 8) {
-        return put_arm(out, read_hex(part(row, 2, 8)), read_hex(part(row, 11, 8)));
+    if let Fields::Both(address, word) = fields_of(row, b'a', 8) {
+        return put_word(out, at, address, Word::Arm(word));
     }
-    if is_row(row, b't', 4) {
-        let word = read_hex(part(row, 11, 4)) % 65536;
-        return put_thumb(out, read_hex(part(row, 2, 8)), word as u16);
+    if let Fields::Both(address, word) = fields_of(row, b't', 4) {
+        return put_word(out, at, address, Word::Thumb((word % 65536) as u16));
     }
-    put_text(out, 0, b"!0")
+    put_text(out, at, b"!0")
 }

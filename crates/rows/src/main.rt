@@ -1,78 +1,57 @@
 // The row program: for each row of standard input, its answer and a line end on standard output, in constant memory.
 use libc::STDIN_FILENO;
 use libc::STDOUT_FILENO;
+use row::block::answer_block;
+use row::block::answer_last;
 use text::put::part;
-use text::put::put_byte;
-use text::put::put_text;
 
-// How many bytes of an unfinished row are held, and how many bytes of answers.
-struct Held(usize, usize);
+// How many bytes are read at once, and how many their answers have at most.
+const BLOCK: usize = 65536;
 
-// The answer for a row and a line end, from a place on.
-fn finish(space: &[u8], n: usize, out: &mut [u8], at: usize) -> usize {
-    let mut answer = [0u8; 96];
-    let k = row::answer_row(part(space, 0, n), &mut answer);
-    let at = put_text(out, at, part(&answer, 0, k));
-    put_byte(out, at, b'\n')
+const ROOM: usize = 393336;
+
+// What a turn leaves: how many bytes of a row are held, and whether there may be more input.
+struct Turn {
+    held: usize,
+    more: bool,
 }
 
-// One byte of input: a line end finishes the row. A row that fills the space is longer than any that has a line, and stays so.
-fn step(x: u8, space: &mut [u8], n: usize, out: &mut [u8], at: usize) -> Held {
-    if x == b'\n' {
-        return Held(0, finish(space, n, out, at));
-    }
-    Held(put_byte(space, n, x), at)
-}
-
-// The answers for the rows that end in some bytes of input; the bytes behind the last line end are held.
-fn feed(input: &[u8], space: &mut [u8], held: usize, out: &mut [u8]) -> Held {
-    let mut n = held;
-    let mut at = 0;
-    let mut i = 0;
-    while i < input.len() {
-        let after = step(input[i], space, n, out, at);
-        n = after.0;
-        at = after.1;
-        i += 1;
-    }
-    Held(n, at)
-}
-
-// Reads some input and writes its answers; answers how many bytes of a row are held, and 0 at the end of the input.
-fn turn(space: &mut [u8], held: usize) -> Held {
-    let mut input = io::buffer();
-    let mut out = io::large_buffer();
-    let got = libc::read(STDIN_FILENO, &mut input);
+// Reads a block and writes its answers.
+fn turn(space: &mut [u8; 20], held: usize, block: &mut [u8; BLOCK], out: &mut [u8; ROOM]) -> Turn {
+    let got = libc::read(STDIN_FILENO, block);
     if got <= 0 {
-        return Held(held, 0);
+        return Turn { held, more: false };
     }
-    let k = io::count(got, &input);
-    let after = feed(part(&input, 0, k), space, held, &mut out);
-    io::write_all(STDOUT_FILENO, part(&out, 0, after.1));
-    Held(after.0, 1)
+    let n = io::count(got, block);
+    let left = answer_block(space, held, part(block, 0, n), out);
+    io::write_all(STDOUT_FILENO, part(out, 0, left.at));
+    Turn {
+        held: left.held,
+        more: true,
+    }
 }
 
-// A proved loop has to end: this one counts down from a number that no input uses up.
-fn all_rows(space: &mut [u8]) -> usize {
-    let mut n = 0;
+// All blocks. A proved loop has to end: this one counts down from a number that no input uses up.
+fn all_blocks(space: &mut [u8; 20], block: &mut [u8; BLOCK], out: &mut [u8; ROOM]) -> usize {
+    let mut held = 0;
     let mut turns = u64::MAX;
     while turns > 0 {
-        let after = turn(space, n);
-        n = after.0;
-        if after.1 == 0 {
-            return n;
+        let after = turn(space, held, block, out);
+        held = after.held;
+        if after.more {
+            turns -= 1;
+        } else {
+            return held;
         }
-        turns -= 1;
     }
-    n
+    held
 }
 
 fn main() {
-    let mut space = [0u8; 32];
-    let n = all_rows(&mut space);
-    if n > 0 {
-        let mut out = [0u8; 128];
-        let k = finish(&space, n, &mut out, 0);
-        io::write_all(STDOUT_FILENO, part(&out, 0, k));
-    }
+    let mut space = [0u8; 20];
+    let mut block = [0u8; BLOCK];
+    let mut out = [0u8; ROOM];
+    let held = all_blocks(&mut space, &mut block, &mut out);
+    let n = answer_last(&space, held, &mut out);
+    io::write_all(STDOUT_FILENO, part(&out, 0, n));
 }

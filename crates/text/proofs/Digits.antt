@@ -51,12 +51,13 @@ pub digit-back : (d : ℕ) → d < 16 → digitValue (digit d) ≡ d
 unfolding digitValue first
 digit-back d h = eqb-true _ _ (at (λ d. eqb (digitValue (digit d)) d) 16 refl d h)
 
-abbrev inRanges : ℕ → ℕ
-inRanges x = cond (ltb x 48) 16 (cond (ltb x 58) (x - 48) (cond (ltb x 97) 16 (cond (ltb x 103) (x - 87) 16)))
+-- the digit that a byte could be, by its low bits
+abbrev pub lowBits : ℕ → ℕ
+lowBits x = (x % 16 + x / 64 * 9) % 16
 
-pub value-of-byte : (x : ℕ) → x < 256 → inRanges x ≡ digitValue x
+pub value-of-byte : (x : ℕ) → x < 256 → cond (eqb (digit (lowBits x)) x) (lowBits x) 16 ≡ digitValue x
 unfolding digitValue first
-value-of-byte x h = eqb-true _ _ (at (λ x. eqb (inRanges x) (digitValue x)) 256 refl x h)
+value-of-byte x h = eqb-true _ _ (at (λ x. eqb (cond (eqb (digit (lowBits x)) x) (lowBits x) 16) (digitValue x)) 256 refl x h)
 
 -- ---- the text of a number is its number
 pub value-snoc : (b v : ℕ) (xs : List ℕ) (x : ℕ) → valueFrom b v (xs ++ (x ∷ [])) ≡ (valueFrom b v xs * b + digitValue x) % 2 ^ 32

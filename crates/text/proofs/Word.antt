@@ -8,8 +8,8 @@ use lib.Dec.{ltb, leb, eqb}
 use native.Mathlib.Numerals.{add-one}
 use lib.ListN.{length, take, drop, getD, drop-of-length-le}
 use lib.Seq.{take-at, drop-at, drop-cons}
-use borrow.Author.Tests.{eqb-true, eq-eqb, ne-eqb}
-use Rattle.common.specs.Lists.{first}
+use borrow.Author.Tests.{eqb-true, le-ltb, lt-ltb, ltb-false, ltb-true}
+use Rattle.common.specs.Lists.{find, first}
 use Rattle.common.proofs.Tests.{by-test, and-left, and-right, at}
 use Rattle.text.specs.Word.{isWord, isGap, word, behind, after, has, all}
 use Rattle.text.specs.Digits.{digit, digits, hex, dec}
@@ -158,16 +158,15 @@ pub dec-first : (n : ℕ) → ltb (getD (dec n) 0 0) 58 ≡ true
 unfolding dec
 dec-first n = digits-first 10 1 n
 
--- ---- the steps of a loop that looks for a byte
-module _ (x : ℕ) (s : List ℕ) (i : ℕ) where
-  pub has-here : i < length s → getD s i 0 ≡ x → has x (drop i s) ≡ true
-  unfolding has
-  has-here h e = rw (drop-cons s i 0 h, eq-eqb _ _ e)
-
-  pub has-on : i < length s → (getD s i 0 ≡ x → ⊥) → has x (drop i s) ≡ has x (drop (i + 1) s)
-  unfolding has
-  has-on h e = rw (drop-cons s i 0 h, ne-eqb _ _ e, add-one)
-
-  pub has-out : length s ≤ i → has x (drop i s) ≡ false
-  unfolding has
-  has-out h = rw (drop-of-length-le s h)
+-- a byte that stands in a line has a place in it
+pub has-place : (x : ℕ) (s : List ℕ) → has x s ≡ ltb (find x s) (length s)
+unfolding has first
+has-place x [] = refl
+has-place x (y ∷ s) =
+    let ih = has-place x s in
+    let k = find x s in
+    let n = length s in
+    by-test (eqb y x) (λ e. rw e (sym (lt-ltb 0 (suc n) (omega arith))))
+    (λ e. by-test (ltb k n)
+    (λ t. let h = ltb-true k n t in rw (e, ih, t, lt-ltb (suc k) (suc n) (omega arith)))
+    (λ t. let h = ltb-false k n t in rw (e, ih, t, le-ltb (suc k) (suc n) (omega arith))))

@@ -1,15 +1,15 @@
 -- Laws of writing: one write after the other, what is kept, and where the bytes stand. Assumes nothing.
 use mathlib.Core.Path.{_≡_, refl, ap, sym, _∙_}
 use mathlib.Core.Bool.{Bool, true, false, cond}
-use mathlib.Core.List.{List, [], _∷_, _++_, append-assoc}
+use mathlib.Core.List.{List, [], _∷_, _++_, append-assoc, append-nil}
 use Prim.Native.Nat.{ℕ, suc, _+_, _≤_, _<_}
 use native.Mathlib.Nat.{add-zero, zero-add, add-suc, suc-add}
 use native.Mathlib.Numerals.{add-one}
 use native.Mathlib.Omega.{arith}
-use borrow.Author.Tests.{lt-ltb, le-ltb}
+use borrow.Author.Tests.{lt-ltb, le-ltb, ltb-true, ltb-false}
 use lib.Dec.{ltb}
-use lib.ListN.{length, set, take, drop, getD, length-set}
-use lib.Seq.{set-getD, sets, sets-eq, take-suc}
+use lib.ListN.{length, set, take, drop, getD, length-set, length-take}
+use lib.Seq.{append-snoc, set-getD, sets, sets-eq, take-all, take-append-seam, take-suc, take-suc-set}
 use Rattle.common.proofs.Tests.{by-test}
 use Rattle.text.specs.Wrote.{Place, Wrote, WroteBoth, store, stores}
 
@@ -75,6 +75,10 @@ stores-room l at (b ∷ bs) h =
     let more : suc at + length bs ≤ length (set l at b) = rw length-set (omega arith) in
     rw (lt-ltb at (length l), add-one, add-suc, ← suc-add) (stores-room (set l at b) (suc at) bs more)
 
+-- bytes that stand in a buffer are written
+pub placed : (l : List ℕ) (at : ℕ) (bs : List ℕ) → at + length bs ≤ length l → Wrote l at bs (take at l ++ bs ++ drop (at + length bs) l) (at + length bs)
+placed l at bs h = record { after = rw (stores-room l at bs h, sets-eq bs l at h) }
+
 -- what was written from the start, with room for it: the bytes, behind them what was there, and the answer is their number
 pub lies : {l bs l′ : List ℕ} {r : ℕ} → Wrote l 0 bs l′ r → length bs ≤ length l → (l′ ≡ bs ++ drop (length bs) l) × (r ≡ length bs)
 lies {l} {bs} w h =
@@ -83,3 +87,21 @@ lies {l} {bs} w h =
       ap (λ (z : Place). z .held) e ∙ sets-eq bs l 0 room ∙ ap (λ (n : ℕ). bs ++ drop n l) (zero-add (length bs)),
       ap (λ (z : Place). z .next) e ∙ zero-add (length bs),
     )
+
+-- what stands before the place behind them: what stood before the bytes, and the bytes, as far as the buffer has room
+clip : (p : Place) (bs : List ℕ) → take (stores p bs .next) (stores p bs .held) ≡ take (length (p .held)) (take (p .next) (p .held) ++ bs)
+clip p [] =
+    let n : length (take (p .next) (p .held)) ≤ length (p .held) = simp length-take (omega arith) in
+    rw (append-nil, take-all (length (p .held)) (take (p .next) (p .held)) n)
+clip p (b ∷ bs) =
+    let l = p .held in
+    let i = p .next in
+    let more = clip (store p b) bs in
+    by-test (ltb i (length l))
+    (λ e. let h : i < length l = ltb-true i (length l) e in
+    more ∙ rw (e, length-set, add-one, take-suc-set l i b h, append-snoc))
+    (λ e. let h : length l ≤ i = ltb-false i (length l) e in
+    more ∙ rw (e, take-all i l h, take-append-seam l bs, take-append-seam l (b ∷ bs)))
+
+pub clipped : {l : List ℕ} {at : ℕ} {bs l′ : List ℕ} {r : ℕ} → Wrote l at bs l′ r → take r l′ ≡ take (length l) (take at l ++ bs)
+clipped {l} {at} {bs} w = ap (λ (z : Place). take (z .next) (z .held)) (w .after) ∙ clip (record { held = l; next = at }) bs

@@ -76,21 +76,14 @@ pub fn next_word(s: &[u8]) -> &[u8]
     &t[n..]
 }
 
-// The value of a digit, and 16 for any other byte.
+// The value of a digit, and 16 for any other byte: the digit that a byte could be by its low bits, and whether it is that one.
 pub fn digit_value(x: u8) -> u64
     ensures { λ r. ⌜ (r ≡ digitValue x) × (r < 17) ⌝ }
 {
-    if x < 48 {
-        return 16;
-    }
-    if x <= 57 {
-        return (x - 48) as u64;
-    }
-    if x < 97 {
-        return 16;
-    }
-    if x <= 102 {
-        return (x - 87) as u64;
+    let names = b"0123456789abcdef";
+    let v = (x % 16 + x / 64 * 9) % 16;
+    if names[v as usize] == x {
+        return v as u64;
     }
     16
 }
@@ -157,6 +150,20 @@ pub fn position(xs: &[u64], n: u64) -> usize
     i
 }
 
+// Where a byte stands in a line, or the line's length where it does not.
+pub fn index_of(s: &[u8], x: u8) -> usize
+    ensures { λ r. ⌜ (r ≡ find x (now (s .entry))) × (r ≤ length (now (s .entry))) ⌝ }
+{
+    let mut i = 0;
+    while i < s.len() {
+        if s[i] == x {
+            return i;
+        }
+        i += 1;
+    }
+    i
+}
+
 // Whether two texts are equal.
 pub fn equal(a: &[u8], b: &[u8]) -> bool
     ensures { λ r. ⌜ r ≡ same (now (a .entry)) (now (b .entry)) ⌝ }
@@ -178,12 +185,5 @@ pub fn equal(a: &[u8], b: &[u8]) -> bool
 pub fn contains(s: &[u8], x: u8) -> bool
     ensures { λ r. ⌜ r ≡ has x (now (s .entry)) ⌝ }
 {
-    let mut i = 0;
-    while i < s.len() {
-        if s[i] == x {
-            return true;
-        }
-        i += 1;
-    }
-    false
+    index_of(s, x) < s.len()
 }

@@ -1,0 +1,52 @@
+-- The row program's input as rows, and in blocks: where it is cut changes no answer. Assumes nothing.
+use mathlib.Core.Path.{_≡_}
+use mathlib.Core.Bool.{cond}
+use mathlib.Core.List.{List, [], _∷_, _++_}
+use Prim.Native.Nat.{ℕ}
+use lib.Dec.{eqb}
+use lib.ListN.{take}
+use Rattle.text.specs.Wrote.{Wrote}
+use Rattle.row.specs.Row.{rowAnswer}
+use Rattle.row.specs.declared.block.Left.{Left}
+
+-- "each with a line end": the answer for a row and byte 10
+abbrev pub answerLine : List ℕ → List ℕ
+answerLine row = rowAnswer row ++ (10 ∷ [])
+
+-- the answers to the rows that end in some bytes of input, where `begun` are the bytes before them of a row
+unfoldable pub answers : List ℕ → List ℕ → List ℕ
+answers begun [] = []
+answers begun (x ∷ l) = cond (eqb x 10) (answerLine begun ++ answers [] l) (answers (begun ++ (x ∷ [])) l)
+
+-- the bytes of the row that has not ended
+unfoldable pub unfinished : List ℕ → List ℕ → List ℕ
+unfinished begun [] = begun
+unfinished begun (x ∷ l) = cond (eqb x 10) (unfinished [] l) (unfinished (begun ++ (x ∷ [])) l)
+
+-- "a line end (byte 10, optional on the last row)"
+abbrev pub lastAnswer : List ℕ → List ℕ
+lastAnswer [] = []
+lastAnswer (x ∷ l) = answerLine (x ∷ l)
+
+-- what the program answers to its input
+unfoldable pub allAnswers : List ℕ → List ℕ
+allAnswers input = answers [] input ++ lastAnswer (unfinished [] input)
+
+-- what is held of a row between two blocks: its first 20 bytes, as no row of 20 bytes or more has a line
+abbrev pub held : List ℕ → List ℕ
+held row = take 20 row
+
+-- the blocks of an input, one after the other
+abbrev pub joined : List (List ℕ) → List ℕ
+joined [] = []
+joined (b ∷ bs) = b ++ joined bs
+
+-- what is answered to an input that comes in blocks, with what is held of a row that a block cuts
+unfoldable pub blockwise : List ℕ → List (List ℕ) → List ℕ
+blockwise begun [] = lastAnswer begun
+blockwise begun (b ∷ bs) = answers begun b ++ blockwise (held (unfinished begun b)) bs
+
+-- A block was answered from the place at of an output that held out: what was begun of a row before it, what is written and held then.
+pub record Answered (begun block out : List ℕ) (at : ℕ) (space′ out′ : List ℕ) (r : Left) : Type 0 where
+  pub wrote : Wrote out at (answers begun block) out′ (r .at)
+  pub keeps : take (r .held) space′ ≡ held (unfinished begun block)
