@@ -3,7 +3,7 @@ use Prim.Native.Nat.{_*_, _+_, _<_, _≤_, suc, ℕ}
 use borrow.Author.Tests.{eqb-true, leb-false, leb-true, ne-eqb}
 use lib.Dec.{eqb, leb}
 use lib.ListN.{drop, length, length-append, length-take, take}
-use lib.Seq.{append-snoc, drop-drop, take-all, take-append-le}
+use lib.Seq.{append-snoc, drop-drop, take-all, take-append-le, take-at}
 use mathlib.Core.Bool.{_&&_, true}
 use mathlib.Core.List.{List, [], _++_, _∷_, append-assoc, append-nil}
 use mathlib.Core.Path.{_≡_, _∙_, ap, refl, sym}
@@ -15,13 +15,13 @@ use Rattle.arm_print.specs.Print.{armLine}
 use Rattle.common.proofs.Tests.{and-left, by-test}
 use Rattle.common.specs.Lists.{find, first}
 use Rattle.row.proofs.Answers.{answer-short, arm-whole, row-length, thumb-whole}
-use Rattle.row.specs.Block.{Answered, allAnswers, answerLine, answers, blockwise, held, joined, lastAnswer, unfinished}
+use Rattle.row.specs.Block.{Answered, allAnswers, answerLine, answers, blockwise, heldOf, joined, lastAnswer, unfinished}
 use Rattle.row.specs.Row.{addressDigits, isRow, rowAnswer, wordDigits}
 use Rattle.row.specs.declared.block.Left.{Left}
 use Rattle.text.specs.Digits.{value}
 use Rattle.text.specs.Text.{text}
 use Rattle.text.specs.Wrote.{Wrote}
-use Rattle.text.proofs.Wrote.{_⨾_, nothing, same-as}
+use Rattle.text.proofs.Wrote.{_⨾_, lies, nothing, same-as}
 use Rattle.thumb_print.specs.Print.{thumbLine}
 
 -- ---- the first row of some bytes of input: it ends, or all of them are of it
@@ -81,7 +81,7 @@ module _ {input out : List ℕ} {at from : ℕ} {out′ : List ℕ} {o : ℕ} (r
         left = rw (r .left, ends-left [] t h, b);
       }
 
-  pub reached-end : {space : List ℕ} {n : ℕ} → length (drop from input) ≤ find 10 (drop from input) → take n space ≡ held (drop from input)
+  pub reached-end : {space : List ℕ} {n : ℕ} → length (drop from input) ≤ find 10 (drop from input) → take n space ≡ heldOf (drop from input)
       → Answered [] input out at space out′ (record { held = n; at = o })
   reached-end h k =
       let t = drop from input in
@@ -112,37 +112,28 @@ long-row l h =
     rw (a, t)
 
 -- either nothing is cut off, or what is held and the whole row are both too long
-by-length : (l : List ℕ) {C : Type 0} → (held l ≡ l → C) → (20 ≤ length (held l) → 20 ≤ length l → C) → C
+by-length : (l : List ℕ) {C : Type 0} → (heldOf l ≡ l → C) → (20 ≤ length (heldOf l) → 20 ≤ length l → C) → C
 by-length l short long =
     by-test (leb (length l) 20) (λ e. short (take-all 20 l (leb-true (length l) 20 e)))
     (λ e. let h = leb-false (length l) 20 e in long (simp length-take (omega arith)) (omega arith))
 
-pub held-row : (l : List ℕ) → rowAnswer (held l) ≡ rowAnswer l
-held-row l = by-length l (λ e. rw e) (λ g h. long-row (held l) g ∙ sym (long-row l h))
+pub held-row : (l : List ℕ) → rowAnswer (heldOf l) ≡ rowAnswer l
+held-row l = by-length l (λ e. rw e) (λ g h. long-row (heldOf l) g ∙ sym (long-row l h))
 
 -- ---- a block: no row ends in it, or the first that does is put together from what was held and its start
-pub block-held : {begun block out space : List ℕ} {n : ℕ} → length block ≤ find 10 block → take n space ≡ held (begun ++ block)
+pub block-held : {begun block out space : List ℕ} {n : ℕ} → length block ≤ find 10 block → take n space ≡ heldOf (begun ++ block)
     → Answered begun block out 0 space out (record { held = n; at = 0 })
 block-held {begun} {block} h k = record { wrote = same-as nothing (sym (no-end begun block h)); keeps = rw (k, no-end-left begun block h) }
 
-pub block-rows : {begun block out space first out₁ out₂ : List ℕ} {o : ℕ} {r : Left} → find 10 block < length block → first ≡ held (begun ++ take (find 10 block) block)
+pub block-rows : {begun block out space first out₁ out₂ : List ℕ} {o : ℕ} {r : Left} → find 10 block < length block → first ≡ heldOf (begun ++ take (find 10 block) block)
     → Wrote out 0 (answerLine first) out₁ o → Answered [] (drop (suc (find 10 block)) block) out₁ o space out₂ r → Answered begun block out 0 space out₂ r
 block-rows {begun} {block} h e w a =
     let row = begun ++ take (find 10 block) block in
-    let same : answerLine (held row) ≡ answerLine row = ap (λ (x : List ℕ). x ++ (10 ∷ [])) (held-row row) in
+    let same : answerLine (heldOf row) ≡ answerLine row = ap (λ (x : List ℕ). x ++ (10 ∷ [])) (held-row row) in
     record {
       wrote = same-as (w ⨾ a .wrote) (rw (e, same) (sym (ends begun block h)));
       keeps = rw (a .keeps, ends-left begun block h);
     }
-
--- the last row
-pub last-none : (l : List ℕ) → length l ≡ 0 → lastAnswer l ≡ []
-last-none [] h = refl
-last-none (x ∷ l) h = absurd (omega arith)
-
-pub last-some : (l : List ℕ) → (length l ≡ 0 → ⊥) → lastAnswer l ≡ answerLine l
-last-some [] h = absurd (h refl)
-last-some (x ∷ l) h = refl
 
 long-answers : (b c l : List ℕ) → 20 ≤ length b → 20 ≤ length c → answers b l ≡ answers c l
 unfolding answers
@@ -151,25 +142,25 @@ long-answers b c (x ∷ l) g h =
     by-test (eqb x 10) (λ e. rw (e, long-row b g, long-row c h))
     (λ e. rw e (long-answers (b ++ (x ∷ [])) (c ++ (x ∷ [])) l (simp length-append (omega arith)) (simp length-append (omega arith))))
 
-long-left : (b c l : List ℕ) → 20 ≤ length b → 20 ≤ length c → held b ≡ held c → held (unfinished b l) ≡ held (unfinished c l)
+long-left : (b c l : List ℕ) → 20 ≤ length b → 20 ≤ length c → heldOf b ≡ heldOf c → heldOf (unfinished b l) ≡ heldOf (unfinished c l)
 unfolding unfinished
 long-left b c [] g h s = s
 long-left b c (x ∷ l) g h s =
-    let t : held (b ++ (x ∷ [])) ≡ held (c ++ (x ∷ [])) = take-append-le 20 b (x ∷ []) g ∙ s ∙ sym (take-append-le 20 c (x ∷ []) h) in
+    let t : heldOf (b ++ (x ∷ [])) ≡ heldOf (c ++ (x ∷ [])) = take-append-le 20 b (x ∷ []) g ∙ s ∙ sym (take-append-le 20 c (x ∷ []) h) in
     by-test (eqb x 10) (λ e. rw e)
     (λ e. rw e (long-left (b ++ (x ∷ [])) (c ++ (x ∷ [])) l (simp length-append (omega arith)) (simp length-append (omega arith)) t))
 
-held-answers : (b l : List ℕ) → answers (held b) l ≡ answers b l
-held-answers b l = by-length b (λ e. rw e) (λ g h. long-answers (held b) b l g h)
+held-answers : (b l : List ℕ) → answers (heldOf b) l ≡ answers b l
+held-answers b l = by-length b (λ e. rw e) (λ g h. long-answers (heldOf b) b l g h)
 
-held-left : (b l : List ℕ) → held (unfinished (held b) l) ≡ held (unfinished b l)
-held-left b l = by-length b (λ e. rw e) (λ g h. long-left (held b) b l g h (take-all 20 (held b) (simp length-take (omega arith))))
+held-left : (b l : List ℕ) → heldOf (unfinished (heldOf b) l) ≡ heldOf (unfinished b l)
+held-left b l = by-length b (λ e. rw e) (λ g h. long-left (heldOf b) b l g h (take-all 20 (heldOf b) (simp length-take (omega arith))))
 
-held-last : (b : List ℕ) → lastAnswer (held b) ≡ lastAnswer b
+held-last : (b : List ℕ) → lastAnswer (heldOf b) ≡ lastAnswer b
 held-last [] = refl
 held-last (x ∷ l) = ap (λ (a : List ℕ). a ++ (10 ∷ [])) (held-row (x ∷ l))
 
-from-held : (b : List ℕ) (bs : List (List ℕ)) → blockwise (held b) bs ≡ answers b (joined bs) ++ lastAnswer (unfinished b (joined bs))
+from-held : (b : List ℕ) (bs : List (List ℕ)) → blockwise (heldOf b) bs ≡ answers b (joined bs) ++ lastAnswer (unfinished b (joined bs))
 unfolding blockwise answers unfinished
 from-held b [] = held-last b
 from-held b (x ∷ bs) = rw (held-answers b x, held-left b x, from-held (unfinished b x) bs, cut b x (joined bs), cut-left b x (joined bs), append-assoc)
@@ -198,3 +189,25 @@ answers-room b [] = omega arith
 answers-room b (x ∷ l) =
     by-test (eqb x 10) (λ e. let r = row-room b in let ih = answers-room [] l in rw e (simp length-append (omega arith)))
     (λ e. let ih = answers-room (b ++ (x ∷ [])) l in let n = length-append b (x ∷ []) in rw e (omega arith))
+
+-- with that room, the answers stand at the output's start
+pub block-answered : {begun input out space out′ : List ℕ} {r : Left} → 6 * (length begun + length input) ≤ length out → Answered begun input out 0 space out′ r
+    → (take (r .at) out′ ≡ answers begun input) × (take (r .held) space ≡ heldOf (unfinished begun input))
+block-answered {begun} {input} {out} h a =
+    let n = answers-room begun input in
+    let l = lies (a .wrote) (omega arith) in
+    (rw (l .0, l .1) (take-at (answers begun input) (drop (length (answers begun input)) out) (length (answers begun input)) refl), a .keeps)
+
+-- the last row: there is none, or its answer stands at the output's start
+pub last-none : (l : List ℕ) → length l ≡ 0 → [] ≡ lastAnswer l
+last-none [] h = refl
+last-none (x ∷ l) h = absurd (omega arith)
+
+pub last-some : (l : List ℕ) {out out′ : List ℕ} {r : ℕ} → (length l ≡ 0 → ⊥) → 6 * (length l + 1) ≤ length out → Wrote out 0 (answerLine l) out′ r → take r out′ ≡ lastAnswer l
+last-some [] n h w = absurd (n refl)
+last-some (x ∷ l) {out} n h w =
+    let a = answerLine (x ∷ l) in
+    let room = row-room (x ∷ l) in
+    let short = length-append (rowAnswer (x ∷ l)) (10 ∷ []) in
+    let k = lies w (omega arith) in
+    rw (k .0, k .1) (take-at a (drop (length a) out) (length a) refl)

@@ -33,8 +33,8 @@ unfoldable pub allAnswers : List ℕ → List ℕ
 allAnswers input = answers [] input ++ lastAnswer (unfinished [] input)
 
 -- what is held of a row between two blocks: its first 20 bytes, as no row of 20 bytes or more has a line
-abbrev pub held : List ℕ → List ℕ
-held row = take 20 row
+abbrev pub heldOf : List ℕ → List ℕ
+heldOf row = take 20 row
 
 -- the blocks of an input, one after the other
 abbrev pub joined : List (List ℕ) → List ℕ
@@ -44,9 +44,11 @@ joined (b ∷ bs) = b ++ joined bs
 -- what is answered to an input that comes in blocks, with what is held of a row that a block cuts
 unfoldable pub blockwise : List ℕ → List (List ℕ) → List ℕ
 blockwise begun [] = lastAnswer begun
-blockwise begun (b ∷ bs) = answers begun b ++ blockwise (held (unfinished begun b)) bs
+blockwise begun (b ∷ bs) = answers begun b ++ blockwise (heldOf (unfinished begun b)) bs
 
--- A block was answered from the place at of an output that held out: what was begun of a row before it, what is written and held then.
-pub record Answered (begun block out : List ℕ) (at : ℕ) (space′ out′ : List ℕ) (r : Left) : Type 0 where
-  pub wrote : Wrote out at (answers begun block) out′ (r .at)
-  pub keeps : take (r .held) space′ ≡ held (unfinished begun block)
+-- ---- for the contracts of inner functions
+-- Some bytes of input were answered from the place at of an output that held out, where `begun` are the bytes before them of a row: what is written then,
+-- as far as there is room, and what is held.
+pub record Answered (begun input out : List ℕ) (at : ℕ) (space′ out′ : List ℕ) (r : Left) : Type 0 where
+  pub wrote : Wrote out at (answers begun input) out′ (r .at)
+  pub keeps : take (r .held) space′ ≡ heldOf (unfinished begun input)

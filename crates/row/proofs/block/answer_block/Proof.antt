@@ -1,43 +1,25 @@
--- `row::block::answer_block` meets its contract. Assumes nothing.
-use Prim.Native.Nat.{_+_, _-_, _<_, _≤_, suc}
+-- `row::block::answer_block` meets its contract: the output has room for the answers. Assumes nothing.
+use Prim.Native.Nat.{_≤_}
 use borrow.Author.Needs.{needs}
 use denote.Ref.{now}
-use lib.ListN.{drop, length, take}
-use lib.Seq.{length-take-le, take-all}
-use mathlib.Core.Path.{_≡_, _∙_, sym}
-use native.Mathlib.Numerals.{add-one}
+use lib.ListN.{length, length-take, take}
+use mathlib.Core.Path.{_≡_}
 use native.Mathlib.Omega.{arith}
-use Rattle.common.proofs.Lists.{part-rest}
-use Rattle.common.specs.Lists.{find}
-use Rattle.row.proofs.Blocks.{block-held, block-rows}
-use Rattle.text.proofs.Wrote.{clipped}
+use Rattle.row.proofs.Blocks.{block-answered}
 use Rattle.row.proofs.block.answer_block.Statement.{statement}
 use Rattle.row.proofs.block.answer_block.Tie as tie
 
-slice-aggregate-put-text : tie.Need-slice-aggregate-put-text
-slice-aggregate-put-text c = sym (length-take-le (c .before .before .index-of .result) _ (c .before .before .index-of .ensures .1))
-
 returns : tie.Need-returns
 returns c =
-    let a = c .before .before .before .before .before .before .before .args in
-    let block = now (a .block) in
-    let f = c .before .before .before .before .index-of .ensures .0 in
-    let n : length (now (a .space)) ≡ 20 = c .before .before .before .put-text-arg .given .0 .1 in
-    let t : take (c .before .before .before .before .index-of .result) block ≡ block = take-all (c .before .before .before .before .index-of .result) block (omega arith) in
-    block-held (omega arith) (rw (n, t) at (clipped (c .before .put-text .ensures)))
-
-returns-2 : tie.Need-returns-2
-returns-2 c =
-    let a = c .before .before .before .before .before .before .before .before .before .before .before .before .before .before .before .before .before .before .before .before .args in
-    let block = now (a .block) in
-    let e = c .before .before .before .before .before .before .before .before .before .before .before .before .before .before .before .before .before .index-of .result in
-    let f : e ≡ find 10 block = c .before .before .before .before .before .before .before .before .before .before .before .before .before .before .before .before .before .index-of .ensures .0 in
-    let le : e ≤ length block = c .before .before .before .before .before .before .before .before .before .before .before .before .before .before .before .before .before .index-of .ensures .1 in
-    let n : length (now (a .space)) ≡ 20 = c .before .before .before .before .before .before .before .before .before .before .before .before .before .before .before .before .put-text-arg .given .0 .1 in
-    let h : find 10 block < length block = rw (← f) (omega arith) in
-    let k = rw (n, f) at (clipped (c .before .before .before .before .before .before .before .before .before .before .before .before .before .before .put-text .ensures)) in
-    let q : take (length block - (e + 1)) (drop (e + 1) block) ≡ drop (suc (find 10 block)) block = part-rest block (e + 1) ∙ rw (add-one e, f) in
-    block-rows h (c .before .before .before .before .before .before .before .before .before .before .part .ensures ∙ k) (c .before .before .before .before .before .before .before .before .answer-line .ensures) (rw q at (c .before .before .answer-rows .ensures))
+    let a = c .before .before .before .before .before .args in
+    let begun = take (a .held) (now (a .space)) in
+    let input = take (a .n) (now (a .block)) in
+    let held : length (now (a .space)) ≡ 20 = c .answer-input .ensures .1 in
+    let block : length (now (a .block)) ≡ 65536 = c .before .before .before .part-arg .given .0 in
+    let room : length (now (a .out)) ≡ 393336 = c .before .answer-input-arg2 .given .0 .1 in
+    let x : length begun ≤ 20 = simp length-take (omega arith) in
+    let y : length input ≤ 65536 = simp length-take (omega arith) in
+    block-answered (omega arith) (rw (c .before .before .part .ensures) at (c .answer-input .ensures .0))
 
 pub answer-block-spec : {M : Type 1} → statement M
-answer-block-spec = tie.close (tie.spec (λ c κs. search needs) slice-aggregate-put-text (λ c κs. search needs) returns (λ c κs. search needs) (λ c κs. search needs) (λ c. search needs) (λ c. search needs) (λ c. search needs) (λ c. search needs) (λ c κs. search needs) (λ c. search needs) returns-2)
+answer-block-spec = tie.close (tie.spec (λ c κs. search needs) (λ c κs. search needs) returns)

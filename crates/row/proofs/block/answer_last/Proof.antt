@@ -1,22 +1,25 @@
--- `row::block::answer_last` meets its contract. Assumes nothing.
+-- `row::block::answer_last` meets its contract: the output has room for the answer. Assumes nothing.
+use Prim.Native.Nat.{_≤_}
 use borrow.Author.Needs.{needs}
 use denote.Ref.{now}
-use lib.ListN.{take}
-use mathlib.Core.Path.{sym}
+use lib.ListN.{length, length-take, take}
+use mathlib.Core.Path.{_≡_}
+use native.Mathlib.Omega.{arith}
 use Rattle.row.proofs.Blocks.{last-none, last-some}
-use Rattle.text.proofs.Wrote.{nothing, same-as}
 use Rattle.row.proofs.block.answer_last.Statement.{statement}
 use Rattle.row.proofs.block.answer_last.Tie as tie
 
 returns : tie.Need-returns
-returns c =
-    let a = c .before .before .before .before .args in
-    same-as nothing (sym (last-none (take (a .held) (now (a .space))) (rw (c .before .part .ensures) at (c .if1 .taken))))
+returns c = last-none (take (c .before .before .before .args .held) (now (c .before .before .before .args .space))) (rw (c .before .part .ensures) at (c .if1 .taken))
 
 returns-2 : tie.Need-returns-2
 returns-2 c =
-    let a = c .before .before .before .before .before .before .before .before .args in
-    same-as (rw (c .before .before .before .before .before .part .ensures) at (c .before .before .answer-line .ensures)) (sym (last-some (take (a .held) (now (a .space))) (rw (c .before .before .before .before .before .part .ensures) at (c .before .before .before .before .if1 .left))))
+    let a = c .before .before .before .before .before .args in
+    let row = take (a .held) (now (a .space)) in
+    let held : length (now (a .space)) ≡ 20 = c .before .before .before .before .part-arg .given .0 in
+    let room : length (now (a .out)) ≡ 393336 = c .before .answer-line-arg .given .0 .1 in
+    let x : length row ≤ 20 = simp length-take (omega arith) in
+    last-some row (rw (c .before .before .before .part .ensures) at (c .before .before .if1 .left)) (omega arith) (rw (c .before .before .before .part .ensures) at (c .answer-line .ensures))
 
 pub answer-last-spec : {M : Type 1} → statement M
-answer-last-spec = tie.close (tie.spec (λ c κs. search needs) returns (λ c κs. search needs) (λ c. search needs) returns-2)
+answer-last-spec = tie.close (tie.spec (λ c κs. search needs) returns (λ c κs. search needs) returns-2)
