@@ -15,8 +15,8 @@ returns c =
     let begun = take (a .held) (now (a .space)) in
     let input = take (a .n) (now (a .block)) in
     let held : length (now (a .space)) ≡ 20 = c .answer-input .ensures .1 in
-    let block : length (now (a .block)) ≡ 65536 = c .before .before .before .part-arg .given .0 in
-    let room : length (now (a .out)) ≡ 393336 = c .before .answer-input-arg2 .given .0 .1 in
+    let block = c .before .before .before .part-arg .given .0 in
+    let room = c .before .answer-input-arg2 .given .0 .1 in
     let x : length begun ≤ 20 = simp length-take (omega arith) in
     let y : length input ≤ 65536 = simp length-take (omega arith) in
     block-answered (omega arith) (rw (c .before .before .part .ensures) at (c .answer-input .ensures .0))

@@ -16,8 +16,8 @@ returns-2 : tie.Need-returns-2
 returns-2 c =
     let a = c .before .before .before .before .before .args in
     let row = take (a .held) (now (a .space)) in
-    let held : length (now (a .space)) ≡ 20 = c .before .before .before .before .part-arg .given .0 in
-    let room : length (now (a .out)) ≡ 393336 = c .before .answer-line-arg .given .0 .1 in
+    let held = c .before .before .before .before .part-arg .given .0 in
+    let room = c .before .answer-line-arg .given .0 .1 in
     let x : length row ≤ 20 = simp length-take (omega arith) in
     last-some row (rw (c .before .before .before .part .ensures) at (c .before .before .if1 .left)) (omega arith) (rw (c .before .before .before .part .ensures) at (c .answer-line .ensures))
 
