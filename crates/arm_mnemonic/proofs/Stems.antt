@@ -10,7 +10,7 @@ use Rattle.arm_mnemonic.specs.Heads.{stemAt, stemNames, stems}
 use Rattle.arm_mnemonic.specs.Stems.{headNumber}
 use Rattle.common.proofs.Lists.{first-le}
 use Rattle.common.proofs.Tests.{at, by-test}
-use Rattle.common.specs.Lists.{find, first, place, same}
+use Rattle.common.specs.Lists.{find, place, same}
 use Rattle.text.proofs.Packed.{Bytes, find-packed}
 use Rattle.text.specs.Word.{packed}
 

@@ -1,11 +1,11 @@
 -- Laws of equality as a test, and of places in a list. Assumes nothing.
 use mathlib.Core.Path.{_∙_, _≡_, ap, ap₂, refl, sym}
 use mathlib.Core.Bool.{Bool, _&&_, cond, false, not, true, true≢false}
-use mathlib.Core.List.{List, [], _∷_, _++_}
-use Prim.Native.Nat.{ℕ, zero, suc, _+_, _-_, _≤_, _<_}
+use mathlib.Core.List.{List, [], _∷_}
+use Prim.Native.Nat.{ℕ, suc, _+_, _-_, _≤_, _<_}
 use native.Mathlib.Omega.{arith}
 use native.Mathlib.Numerals.{add-one}
-use lib.Dec.{eqb, ltb}
+use lib.Dec.{eqb}
 use borrow.Author.Tests.{eqb-true, eq-eqb, ne-eqb}
 use lib.ListN.{length, take, drop, getD, length-drop, drop-of-length-le}
 use lib.Seq.{drop-cons, take-all}

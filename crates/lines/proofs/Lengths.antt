@@ -12,7 +12,7 @@ use native.Mathlib.Omega.{arith}
 use Rattle.arm7tdmi.proofs.Names.{cond-within, reg-within}
 use Rattle.lines.proofs.Registers.{low-some, registers-next, registers-none}
 use Rattle.arm7tdmi.specs.Names.{regString}
-use Rattle.lines.specs.Pieces.{condAt, either, ifSet, listed, regAt, registers, setBits}
+use Rattle.lines.specs.Pieces.{condAt, either, ifSet, listed, regAt, registers}
 use Rattle.common.proofs.Tests.{by-test}
 use Rattle.common.specs.Bits.{bit, bitRange}
 use Rattle.text.proofs.Within.{Within, of-two, or-none}

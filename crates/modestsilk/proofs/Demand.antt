@@ -1,13 +1,12 @@
 -- Reading meets its demand, for both sets, forms and all addresses. Assumes nothing.
-use mathlib.Core.Bool.{cond, false, true}
 use mathlib.Core.List.{List}
-use mathlib.Core.Path.{_≡_, refl, sym, ap}
+use mathlib.Core.Path.{_≡_, refl}
 use Prim.Native.Nat.{ℕ, _<_, _^_}
-use borrow.Author.Tests.{le-ltb, lt-ltb, ltb-true, ltb-false}
+use borrow.Author.Tests.{ltb-true, ltb-false}
 use lib.Dec.{ltb}
 use native.Mathlib.Omega.{arith}
 use Rattle.common.proofs.Tests.{by-test}
-use Rattle.lines.specs.Answer.{Answer, line}
+use Rattle.lines.specs.Answer.{Answer}
 use Rattle.arm7tdmi.specs.declared.Form.{Form}
 use Rattle.arm_print.specs.Print.{armLine}
 use Rattle.arm_lowest.specs.Read.{readArm}

@@ -1,21 +1,19 @@
 -- The rows of an input by its line ends; that it may be cut anywhere, and that the start of a row is enough to hold; how long the answers are. Assumes nothing.
 use Prim.Native.Nat.{_*_, _+_, _<_, _≤_, suc, ℕ}
-use borrow.Author.Tests.{eqb-true, leb-false, leb-true, ne-eqb}
+use borrow.Author.Tests.{leb-false, leb-true, ne-eqb}
 use lib.Dec.{eqb, leb}
 use lib.ListN.{drop, length, length-append, length-take, take}
-use lib.Seq.{append-snoc, drop-drop, take-all, take-append-le, take-at}
-use mathlib.Core.Bool.{_&&_, true}
-use mathlib.Core.List.{List, [], _++_, _∷_, append-assoc, append-nil}
+use lib.Seq.{append-snoc, drop-drop, take-all, take-append-le}
+use mathlib.Core.List.{List, [], _++_, _∷_, append-assoc, append-nil, flatten}
 use mathlib.Core.Path.{_≡_, _∙_, ap, refl, sym}
-use native.Mathlib.Nat.{add-zero}
 use native.Mathlib.Numerals.{add-one}
 use native.Mathlib.Omega.{arith}
 use Rattle.arm7tdmi.specs.declared.Form.the-variants.{Bench}
 use Rattle.arm_print.specs.Print.{armLine}
-use Rattle.common.proofs.Tests.{and-left, by-test}
+use Rattle.common.proofs.Tests.{by-test}
 use Rattle.common.specs.Lists.{find, first}
 use Rattle.row.proofs.Answers.{answer-short, arm-whole, row-length, thumb-whole}
-use Rattle.row.specs.Block.{Answered, allAnswers, answerLine, answers, blockwise, heldOf, joined, lastAnswer, unfinished}
+use Rattle.row.specs.Block.{Answered, allAnswers, answerLine, answers, atStart, blockwise, heldOf, lastAnswer, unfinished}
 use Rattle.row.specs.Row.{addressDigits, isRow, rowAnswer, wordDigits}
 use Rattle.row.specs.declared.block.Left.{Left}
 use Rattle.text.specs.Digits.{value}
@@ -160,13 +158,13 @@ held-last : (b : List ℕ) → lastAnswer (heldOf b) ≡ lastAnswer b
 held-last [] = refl
 held-last (x ∷ l) = ap (λ (a : List ℕ). a ++ (10 ∷ [])) (held-row (x ∷ l))
 
-from-held : (b : List ℕ) (bs : List (List ℕ)) → blockwise (heldOf b) bs ≡ answers b (joined bs) ++ lastAnswer (unfinished b (joined bs))
-unfolding blockwise answers unfinished
+from-held : (b : List ℕ) (bs : List (List ℕ)) → blockwise (heldOf b) bs ≡ answers b (flatten bs) ++ lastAnswer (unfinished b (flatten bs))
+unfolding blockwise answers unfinished flatten
 from-held b [] = held-last b
-from-held b (x ∷ bs) = rw (held-answers b x, held-left b x, from-held (unfinished b x) bs, cut b x (joined bs), cut-left b x (joined bs), append-assoc)
+from-held b (x ∷ bs) = rw (held-answers b x, held-left b x, from-held (unfinished b x) bs, cut b x (flatten bs), cut-left b x (flatten bs), append-assoc)
 
 -- an input is answered the same in whatever blocks it comes
-pub cut-anywhere : (bs : List (List ℕ)) → blockwise [] bs ≡ allAnswers (joined bs)
+pub cut-anywhere : (bs : List (List ℕ)) → blockwise [] bs ≡ allAnswers (flatten bs)
 unfolding allAnswers
 cut-anywhere bs = from-held [] bs
 
@@ -190,24 +188,22 @@ answers-room b (x ∷ l) =
     by-test (eqb x 10) (λ e. let r = row-room b in let ih = answers-room [] l in rw e (simp length-append (omega arith)))
     (λ e. let ih = answers-room (b ++ (x ∷ [])) l in let n = length-append b (x ∷ []) in rw e (omega arith))
 
--- with that room, the answers stand at the output's start
+-- what was written from the start of an output with room for it stands there
+stood : {bs out out′ : List ℕ} {r : ℕ} → length bs ≤ length out → Wrote out 0 bs out′ r → (r, out′) ≡ atStart bs out
+stood h w = let k = lies w h in rw (k .0, k .1)
+
 pub block-answered : {begun input out space out′ : List ℕ} {r : Left} → 6 * (length begun + length input) ≤ length out → Answered begun input out 0 space out′ r
-    → (take (r .at) out′ ≡ answers begun input) × (take (r .held) space ≡ heldOf (unfinished begun input))
-block-answered {begun} {input} {out} h a =
-    let n = answers-room begun input in
-    let l = lies (a .wrote) (omega arith) in
-    (rw (l .0, l .1) (take-at (answers begun input) (drop (length (answers begun input)) out) (length (answers begun input)) refl), a .keeps)
+    → ((r .at, out′) ≡ atStart (answers begun input) out) × (take (r .held) space ≡ heldOf (unfinished begun input))
+block-answered {begun} {input} h a = let n = answers-room begun input in (stood (omega arith) (a .wrote), a .keeps)
 
--- the last row: there is none, or its answer stands at the output's start
-pub last-none : (l : List ℕ) → length l ≡ 0 → [] ≡ lastAnswer l
-last-none [] h = refl
-last-none (x ∷ l) h = absurd (omega arith)
+-- the last row: there is none, or its answer stands there
+pub last-none : (l out : List ℕ) → length l ≡ 0 → (0, out) ≡ atStart (lastAnswer l) out
+last-none [] out h = refl
+last-none (x ∷ l) out h = absurd (omega arith)
 
-pub last-some : (l : List ℕ) {out out′ : List ℕ} {r : ℕ} → (length l ≡ 0 → ⊥) → 6 * (length l + 1) ≤ length out → Wrote out 0 (answerLine l) out′ r → take r out′ ≡ lastAnswer l
+pub last-some : (l : List ℕ) {out out′ : List ℕ} {r : ℕ} → (length l ≡ 0 → ⊥) → 6 * (length l + 1) ≤ length out → Wrote out 0 (answerLine l) out′ r → (r, out′) ≡ atStart (lastAnswer l) out
 last-some [] n h w = absurd (n refl)
-last-some (x ∷ l) {out} n h w =
-    let a = answerLine (x ∷ l) in
+last-some (x ∷ l) n h w =
     let room = row-room (x ∷ l) in
     let short = length-append (rowAnswer (x ∷ l)) (10 ∷ []) in
-    let k = lies w (omega arith) in
-    rw (k .0, k .1) (take-at a (drop (length a) out) (length a) refl)
+    stood (omega arith) w

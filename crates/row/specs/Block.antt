@@ -4,7 +4,7 @@ use mathlib.Core.Bool.{cond}
 use mathlib.Core.List.{List, [], _∷_, _++_}
 use Prim.Native.Nat.{ℕ}
 use lib.Dec.{eqb}
-use lib.ListN.{take}
+use lib.ListN.{drop, length, take}
 use Rattle.text.specs.Wrote.{Wrote}
 use Rattle.row.specs.Row.{rowAnswer}
 use Rattle.row.specs.declared.block.Left.{Left}
@@ -32,14 +32,13 @@ lastAnswer (x ∷ l) = answerLine (x ∷ l)
 unfoldable pub allAnswers : List ℕ → List ℕ
 allAnswers input = answers [] input ++ lastAnswer (unfinished [] input)
 
+-- some bytes stand at the start of an output that held out, and the bytes behind them keep their values: their number, and what it holds then
+abbrev pub atStart : List ℕ → List ℕ → ℕ × List ℕ
+atStart bs out = (length bs, bs ++ drop (length bs) out)
+
 -- what is held of a row between two blocks: its first 20 bytes, as no row of 20 bytes or more has a line
 abbrev pub heldOf : List ℕ → List ℕ
 heldOf row = take 20 row
-
--- the blocks of an input, one after the other
-abbrev pub joined : List (List ℕ) → List ℕ
-joined [] = []
-joined (b ∷ bs) = b ++ joined bs
 
 -- what is answered to an input that comes in blocks, with what is held of a row that a block cuts
 unfoldable pub blockwise : List ℕ → List (List ℕ) → List ℕ

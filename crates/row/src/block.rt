@@ -3,7 +3,7 @@ ghost use mathlib.Core.List.{[]};
 ghost use mathlib.Core.Path.{_≡_};
 ghost use lib.ListN.{length, take};
 ghost use Rattle.text.specs.Wrote.{Wrote};
-ghost use Rattle.row.specs.Block.{Answered, answerLine, answers, unfinished, heldOf, lastAnswer};
+ghost use Rattle.row.specs.Block.{Answered, answerLine, answers, atStart, heldOf, lastAnswer, unfinished};
 use crate::answer_row;
 use text::put::part;
 use text::put::put_byte;
@@ -65,7 +65,8 @@ fn answer_input(space: &mut [u8; HELD], held: usize, input: &[u8], out: &mut [u8
     answer_rows(space, &input[next..], out, at)
 }
 
-// The rows that end in the first n bytes of a block: their answers stand at the output's start, and the row that does not end is held.
+// The rows that end in the first n bytes of a block: their answers stand at the output's start, and the row that does not end is held. What stands
+// behind the held bytes is left free.
 pub fn answer_block(
     space: &mut [u8; HELD],
     held: usize,
@@ -73,7 +74,7 @@ pub fn answer_block(
     n: usize,
     out: &mut [u8; ROOM],
 ) -> Left
-    ensures { λ r. ⌜ take (r .at) (now (out .exit)) ≡ answers (take held (now (space .entry))) (take n (now (block .entry))) ⌝ }
+    ensures { λ r. ⌜ (r .at, now (out .exit)) ≡ atStart (answers (take held (now (space .entry))) (take n (now (block .entry)))) (now (out .entry)) ⌝ }
     ensures { λ r. ⌜ take (r .held) (now (space .exit)) ≡ heldOf (unfinished (take held (now (space .entry))) (take n (now (block .entry)))) ⌝ }
 {
     answer_input(space, held, part(block, 0, n), out)
@@ -81,7 +82,7 @@ pub fn answer_block(
 
 // The answer for a last row without a line end, if there is one.
 pub fn answer_last(space: &[u8; HELD], held: usize, out: &mut [u8; ROOM]) -> usize
-    ensures { λ r. ⌜ take r (now (out .exit)) ≡ lastAnswer (take held (now (space .entry))) ⌝ }
+    ensures { λ r. ⌜ (r, now (out .exit)) ≡ atStart (lastAnswer (take held (now (space .entry)))) (now (out .entry)) ⌝ }
 {
     let row = part(space, 0, held);
     if row.len() == 0 {

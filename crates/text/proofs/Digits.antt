@@ -1,18 +1,18 @@
 -- Laws of digits: what the code tests, that the text of a number is its number, and how many digits there are. Assumes nothing.
 use mathlib.Core.Path.{_≡_, refl, sym}
-use mathlib.Core.Bool.{Bool, true, false, cond, _&&_}
+use mathlib.Core.Bool.{cond}
 use mathlib.Core.List.{List, [], _∷_, _++_, append-assoc}
 use Prim.Native.Nat.{ℕ, zero, suc, _+_, _-_, _*_, _/_, _%_, _^_, _≤_, _<_, max}
 use native.Mathlib.Nat.{div-add-mod', div-lt-iff-lt-mul, mod-lt, mod-eq-of-lt, pow-suc, pow-zero, mul-le-mul-left, div-le-self, lt-of-le-of-lt}
 use native.Mathlib.Numerals.{add-one}
 use native.Mathlib.Omega.{arith}
-use lib.Dec.{ltb, eqb}
+use lib.Dec.{eqb}
 use lib.ListN.{length, take, drop, getD, set, length-append, length-set, drop-of-length-le}
 use lib.Seq.{drop-cons, getD-set-same, drop-set-lt}
-use borrow.Author.Tests.{eqb-true, eqb-false, eq-eqb, ne-eqb, ltb-true}
+use borrow.Author.Tests.{eqb-true, eqb-false, eq-eqb, ne-eqb}
 use Rattle.common.specs.Lists.{first}
 use Rattle.common.proofs.Tests.{by-test, at}
-use Rattle.text.specs.Digits.{digit, digitValue, digits, hex, dec, prefixed, valueFrom, value}
+use Rattle.text.specs.Digits.{digit, digitValue, digits, hex, dec, valueFrom, value}
 
 -- ---- digits by what the code tests
 pub digits-none : (b k w n : ℕ) → n + w ≡ 0 → digits b k w n ≡ []

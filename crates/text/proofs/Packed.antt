@@ -1,6 +1,6 @@
 -- Texts as numbers: a text is found in a list of short texts where its number is found in the list of theirs. Assumes nothing.
 use mathlib.Core.Path.{_≡_, refl, sym, ap, ap₂, _∙_}
-use mathlib.Core.Bool.{Bool, true, false, cond, _&&_, not, true≢false}
+use mathlib.Core.Bool.{Bool, true, false, _&&_, not, true≢false}
 use mathlib.Core.List.{List, [], _∷_, map}
 use Prim.Native.Nat.{ℕ, zero, suc, _+_, _-_, _*_, _^_, _≤_, _<_}
 use native.Mathlib.Nat.{pow-suc, pow-le-pow-right}
@@ -8,10 +8,10 @@ use native.Mathlib.Numerals.{add-one}
 use native.Mathlib.Omega.{arith}
 use lib.Dec.{ltb, leb, eqb}
 use lib.ListN.{length, drop, getD, length-drop}
-use lib.Seq.{drop-cons, drop-length, getD-drop}
-use borrow.Author.Tests.{eqb-true, eqb-false, eq-eqb, ne-eqb, le-leb, lt-leb, leb-true, ltb-true}
+use lib.Seq.{drop-cons, getD-drop}
+use borrow.Author.Tests.{eqb-true, eqb-false, ne-eqb, le-leb, lt-leb, ltb-true}
 use Rattle.common.specs.Lists.{same, first, find, place}
-use Rattle.common.proofs.Lists.{same-eq, same-refl, other}
+use Rattle.common.proofs.Lists.{same-refl, other}
 use Rattle.common.proofs.Tests.{by-test, and-left, and-right}
 use Rattle.text.specs.Word.{number, all, packed}
 

@@ -1,13 +1,12 @@
 -- Laws of the words of a line: a word, and what separates it from the next, are read back; numbers are words. Assumes nothing.
-use mathlib.Core.Path.{_≡_, refl, sym, ap, _∙_}
-use mathlib.Core.Bool.{Bool, true, false, cond, _&&_, not, Bool·beq, true≢false}
+use mathlib.Core.Path.{_≡_, refl, sym}
+use mathlib.Core.Bool.{Bool, true, false, cond, not, Bool·beq, true≢false}
 use mathlib.Core.List.{List, [], _∷_, _++_}
 use Prim.Native.Nat.{ℕ, zero, suc, _+_, _-_, _/_, _%_, _≤_, _<_}
 use native.Mathlib.Omega.{arith}
 use lib.Dec.{ltb, leb, eqb}
-use native.Mathlib.Numerals.{add-one}
-use lib.ListN.{length, take, drop, getD, drop-of-length-le}
-use lib.Seq.{take-at, drop-at, drop-cons}
+use lib.ListN.{length, getD}
+use lib.Seq.{take-at, drop-at}
 use borrow.Author.Tests.{eqb-true, le-ltb, lt-ltb, ltb-false, ltb-true}
 use Rattle.common.specs.Lists.{find, first}
 use Rattle.common.proofs.Tests.{by-test, and-left, and-right, at}

@@ -31,7 +31,7 @@ use Rattle.arm_candidate.specs.CandidateSimple.{undefinedCand}
 use Rattle.arm_mnemonic.specs.Heads.{condOf, headOf, stemNames, stemOf, stems}
 use Rattle.reading.specs.Read.{isLine}
 use Rattle.text.specs.Word as Words
-use Rattle.worked.specs.Worked.{Input, Output, Row, arm, gives, givenRow, printed, read, table, thumb, word}
+use Rattle.worked.specs.Worked.{Input, Output, Row, arm, gives, givenRow, read, table, thumb, word}
 
 -- what they give, with the reader's law in place of the lowest word
 abbrev byLaw : Form → Input → Output

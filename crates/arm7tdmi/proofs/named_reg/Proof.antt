@@ -1,5 +1,5 @@
 -- `arm7tdmi::named_reg` meets its contract: each arm is computed; the last says that the number is that of no name. Assumes nothing.
-use Prim.Native.Nat.{_%_, _*_, _+_, _/_, _^_}
+use Prim.Native.Nat.{_*_, _+_, _/_, _^_}
 use borrow.Author.Needs.{needs}
 use mathlib.Core.Path.{_≡_}
 use native.Mathlib.Omega.{arith}

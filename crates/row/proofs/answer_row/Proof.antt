@@ -1,7 +1,7 @@
 -- `row::answer_row` meets its contract. Assumes nothing.
 use borrow.Author.Needs.{needs}
 use denote.Ref.{now}
-use mathlib.Core.Path.{_∙_, _≡_, sym}
+use mathlib.Core.Path.{_∙_, sym}
 use Rattle.row.proofs.Answers.{fields-both, fields-none, word-small}
 use Rattle.row.specs.Row.{rowAnswer, wordLine}
 use Rattle.row.proofs.answer_row.Statement.{statement}

@@ -4,7 +4,7 @@ use borrow.Author.Needs.{needs}
 use borrow.Author.Tests.{eq-eqb, ne-eqb}
 use denote.Ref.{now}
 use lib.ListN.{getD, length}
-use mathlib.Core.Path.{_∙_, _≡_}
+use mathlib.Core.Path.{_≡_}
 use Rattle.row.proofs.Answers.{number-hex, number-none}
 use Rattle.row.specs.Row.{addressDigits, fieldsOf, hexNumber, isRow, wordDigits}
 use Rattle.row.proofs.fields_of.Statement.{statement}

@@ -4,7 +4,7 @@ use borrow.Author.Needs.{needs}
 use borrow.Author.Tests.{leb-true}
 use denote.Ref.{now}
 use lib.ListN.{length}
-use mathlib.Core.Path.{_∙_, refl, sym}
+use mathlib.Core.Path.{_∙_, sym}
 use native.Mathlib.Omega.{arith}
 use Rattle.row.proofs.Answers.{part-kept, part-length, part-refusal, shown-refusal, shown-take, straight, word-whole}
 use Rattle.row.specs.Row.{wordLine}

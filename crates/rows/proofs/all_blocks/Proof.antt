@@ -1,6 +1,5 @@
 -- `rows::all_blocks` meets its contract: it ends, as its turns count down. Assumes nothing.
 use borrow.Author.Needs.{needs}
-use mathlib.Core.Path.{_≡_}
 use Rattle.rows.proofs.all_blocks.Statement.{statement}
 use Rattle.rows.proofs.all_blocks.Tie as tie
 

@@ -1,5 +1,5 @@
 -- `thumb::thumb_kind` meets its contract. Invariant: the kind is that of the place, if it is below i. Assumes nothing.
-use Prim.Native.Nat.{_+_, _-_, _≤_}
+use Prim.Native.Nat.{_-_, _≤_}
 use Rattle.arm7tdmi.proofs.Rows.{seen-all, seen-other, seen-there}
 use Rattle.thumb.specs.Kinds.{thumbNone}
 use Rattle.thumb.specs.declared.ThumbRow.{ThumbRow}

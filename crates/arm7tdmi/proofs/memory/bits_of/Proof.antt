@@ -4,7 +4,7 @@ use lib.IntN.{natAbs, ℤ}
 use lib.Signed.{nonNeg}
 use mathlib.Core.Path.{ap, subst, sym}
 use mir.Syntax.{w32, w64}
-use mir.Val.{Fits, SFits, ofZ}
+use mir.Val.{Fits, SFits}
 use mir.ValLaws.{ofZ-fits}
 use native.Mathlib.Omega.{arith}
 use Rattle.arm7tdmi.proofs.Integers.{sum-held, sum-is, up-held, widens}

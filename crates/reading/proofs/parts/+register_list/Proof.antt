@@ -4,8 +4,6 @@ use borrow.Author.Needs.{needs}
 use borrow.Fn.Kinds.{In}
 use borrow.Fn.PlainCycle.{Measures, and, falls, is}
 use denote.Ref.{now}
-use mathlib.Core.Path.{_∙_}
-use native.Mathlib.Omega.{arith}
 use Rattle.arm7tdmi.proofs.read_reg.Reads as read-reg-reads
 use Rattle.reading.proofs.RegisterList.{list-end, list-more, list-none}
 use Rattle.reading.proofs.parts.+register_list.Lts-register_list as lts

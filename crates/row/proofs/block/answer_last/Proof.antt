@@ -3,14 +3,13 @@ use Prim.Native.Nat.{_≤_}
 use borrow.Author.Needs.{needs}
 use denote.Ref.{now}
 use lib.ListN.{length, length-take, take}
-use mathlib.Core.Path.{_≡_}
 use native.Mathlib.Omega.{arith}
 use Rattle.row.proofs.Blocks.{last-none, last-some}
 use Rattle.row.proofs.block.answer_last.Statement.{statement}
 use Rattle.row.proofs.block.answer_last.Tie as tie
 
 returns : tie.Need-returns
-returns c = last-none (take (c .before .before .before .args .held) (now (c .before .before .before .args .space))) (rw (c .before .part .ensures) at (c .if1 .taken))
+returns c = last-none (take (c .before .before .before .args .held) (now (c .before .before .before .args .space))) (now (c .before .before .before .args .out)) (rw (c .before .part .ensures) at (c .if1 .taken))
 
 returns-2 : tie.Need-returns-2
 returns-2 c =

@@ -1,11 +1,11 @@
 -- `row::block::answer_rows` meets its contract. Invariant: the rows before `from` are answered. Assumes nothing.
-use Prim.Native.Nat.{_+_, _-_, _<_, _≤_}
+use Prim.Native.Nat.{_-_, _≤_}
 use borrow.Author.Needs.{needs}
 use denote.Ref.{now}
 use lib.ListN.{drop, drop-of-length-le, length, length-drop}
 use lib.Seq.{length-take-le}
 use mathlib.Core.List.{[]}
-use mathlib.Core.Path.{_≡_, _∙_, refl, sym}
+use mathlib.Core.Path.{_≡_, refl, sym}
 use native.Mathlib.Omega.{arith}
 use Rattle.common.proofs.Lists.{part-rest}
 use Rattle.common.specs.Lists.{find}

@@ -3,10 +3,9 @@ use borrow.Author.Needs.{needs}
 use mathlib.Core.Path.{_≡_, sym}
 use Prim.Native.Nat.{_≤_, _-_}
 use native.Mathlib.Omega.{arith}
-use native.Mathlib.Numerals.{add-one}
 use denote.Ref.{now}
-use lib.ListN.{length, take, getD}
-use lib.Seq.{take-suc, take-all}
+use lib.ListN.{length, take}
+use lib.Seq.{take-all}
 use Rattle.text.specs.Wrote.{Wrote}
 use Rattle.text.proofs.Wrote.{_⨾_, same-as, nothing, take-more}
 use Rattle.text.proofs.put.put_text.Statement.{statement}
