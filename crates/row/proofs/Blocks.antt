@@ -196,11 +196,7 @@ pub block-answered : {begun input out space out′ : List ℕ} {r : Left} → 6 
     → ((r .at, out′) ≡ atStart (answers begun input) out) × (take (r .held) space ≡ heldOf (unfinished begun input))
 block-answered {begun} {input} h a = let n = answers-room begun input in (stood (omega arith) (a .wrote), a .keeps)
 
--- the last row: there is none, or its answer stands there
-pub last-none : (l out : List ℕ) → length l ≡ 0 → (0, out) ≡ atStart (lastAnswer l) out
-last-none [] out h = refl
-last-none (x ∷ l) out h = absurd (omega arith)
-
+-- the answer for a last row stands there
 pub last-some : (l : List ℕ) {out out′ : List ℕ} {r : ℕ} → (length l ≡ 0 → ⊥) → 6 * (length l + 1) ≤ length out → Wrote out 0 (answerLine l) out′ r → (r, out′) ≡ atStart (lastAnswer l) out
 last-some [] n h w = absurd (n refl)
 last-some (x ∷ l) n h w =

@@ -1,7 +1,7 @@
 // A block of the row program's input: the rows that end in it are answered, and the start of the row that does not is held.
 ghost use mathlib.Core.List.{[]};
 ghost use mathlib.Core.Path.{_≡_};
-ghost use lib.ListN.{length, take};
+ghost use lib.ListN.{drop, length, take};
 ghost use Rattle.text.specs.Wrote.{Wrote};
 ghost use Rattle.row.specs.Block.{Answered, answerLine, answers, atStart, heldOf, lastAnswer, unfinished};
 use crate::answer_row;
@@ -23,11 +23,11 @@ pub struct Left {
     pub at: usize,
 }
 
-// The answer for a row and a line end, from a place on.
-fn answer_line(row: &[u8], out: &mut [u8], at: usize) -> usize
-    ensures { λ r. ⌜ Wrote (now (out .entry)) at (answerLine (now (row .entry))) (now (out .exit)) r ⌝ }
+// The answer for the row of n bytes from a place of the input on, and a line end.
+fn answer_line(input: &[u8], from: usize, n: usize, out: &mut [u8], at: usize) -> usize
+    ensures { λ r. ⌜ Wrote (now (out .entry)) at (answerLine (take n (drop from (now (input .entry))))) (now (out .exit)) r ⌝ }
 {
-    let at = answer_row(row, out, at);
+    let at = answer_row(part(input, from, n), out, at);
     put_byte(out, at, b'\n')
 }
 
@@ -44,7 +44,7 @@ fn answer_rows(space: &mut [u8; HELD], input: &[u8], out: &mut [u8], at: usize) 
             let n = put_text(space, 0, rest);
             return Left { held: n, at: o };
         }
-        o = answer_line(&rest[..e], out, o);
+        o = answer_line(input, from, e, out, o);
         from += e + 1;
     }
     Left { held: 0, at: o }
@@ -60,7 +60,7 @@ fn answer_input(space: &mut [u8; HELD], held: usize, input: &[u8], out: &mut [u8
     if e == input.len() {
         return Left { held: n, at: 0 };
     }
-    let at = answer_line(part(space, 0, n), out, 0);
+    let at = answer_line(space, 0, n, out, 0);
     let next = e + 1;
     answer_rows(space, &input[next..], out, at)
 }
@@ -84,9 +84,8 @@ pub fn answer_block(
 pub fn answer_last(space: &[u8; HELD], held: usize, out: &mut [u8; ROOM]) -> usize
     ensures { λ r. ⌜ (r, now (out .exit)) ≡ atStart (lastAnswer (take held (now (space .entry)))) (now (out .entry)) ⌝ }
 {
-    let row = part(space, 0, held);
-    if row.len() == 0 {
+    if held == 0 {
         return 0;
     }
-    answer_line(row, out, 0)
+    answer_line(space, 0, held, out, 0)
 }

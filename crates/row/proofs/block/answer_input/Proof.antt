@@ -4,7 +4,7 @@ use borrow.Author.Needs.{needs}
 use denote.Ref.{now}
 use lib.ListN.{drop, length, take}
 use lib.Seq.{length-take-le, take-all}
-use mathlib.Core.Path.{_≡_, _∙_, sym}
+use mathlib.Core.Path.{_≡_, sym}
 use native.Mathlib.Numerals.{add-one}
 use native.Mathlib.Omega.{arith}
 use Rattle.common.proofs.Lists.{part-rest}
@@ -28,16 +28,16 @@ returns c =
 
 returns-2 : tie.Need-returns-2
 returns-2 c =
-    let a = c .before .before .before .before .before .before .before .before .before .before .before .before .before .before .before .before .before .before .before .before .args in
+    let a = c .before .before .before .before .before .before .before .before .before .before .before .before .before .before .before .before .before .before .before .args in
     let input = now (a .input) in
-    let e = c .before .before .before .before .before .before .before .before .before .before .before .before .before .before .before .before .before .index-of .result in
-    let f : e ≡ find 10 input = c .before .before .before .before .before .before .before .before .before .before .before .before .before .before .before .before .before .index-of .ensures .0 in
-    let le : e ≤ length input = c .before .before .before .before .before .before .before .before .before .before .before .before .before .before .before .before .before .index-of .ensures .1 in
-    let n : length (now (a .space)) ≡ 20 = c .before .before .before .before .before .before .before .before .before .before .before .before .before .before .before .before .put-text-arg .given .0 .1 in
+    let e = c .before .before .before .before .before .before .before .before .before .before .before .before .before .before .before .before .index-of .result in
+    let f : e ≡ find 10 input = c .before .before .before .before .before .before .before .before .before .before .before .before .before .before .before .before .index-of .ensures .0 in
+    let le : e ≤ length input = c .before .before .before .before .before .before .before .before .before .before .before .before .before .before .before .before .index-of .ensures .1 in
+    let n : length (now (a .space)) ≡ 20 = c .before .before .before .before .before .before .before .before .before .before .before .before .before .before .before .put-text-arg .given .0 .1 in
     let h : find 10 input < length input = rw (← f) (omega arith) in
-    let k = rw (n, f) at (clipped (c .before .before .before .before .before .before .before .before .before .before .before .before .before .before .put-text .ensures)) in
+    let k = rw (n, f) at (clipped (c .before .before .before .before .before .before .before .before .before .before .before .before .before .put-text .ensures)) in
     let q : take (length input - (e + 1)) (drop (e + 1) input) ≡ drop (suc (find 10 input)) input = rw (← f, ← add-one e) (part-rest input (e + 1)) in
-    (block-rows h (c .before .before .before .before .before .before .before .before .before .before .part .ensures ∙ k) (c .before .before .before .before .before .before .before .before .answer-line .ensures) (rw q at (c .before .before .answer-rows .ensures)), n)
+    (block-rows h k (c .before .before .before .before .before .before .before .before .answer-line .ensures) (rw q at (c .before .before .answer-rows .ensures)), n)
 
 pub answer-input-spec : {M : Type 1} → statement M
-answer-input-spec = tie.close (tie.spec (λ c κs. search needs) slice-aggregate-put-text (λ c κs. search needs) returns (λ c κs. search needs) (λ c κs. search needs) (λ c. search needs) (λ c. search needs) (λ c. search needs) (λ c. search needs) (λ c κs. search needs) (λ c. search needs) returns-2)
+answer-input-spec = tie.close (tie.spec (λ c κs. search needs) slice-aggregate-put-text (λ c κs. search needs) returns (λ c κs. search needs) (λ c. search needs) (λ c. search needs) (λ c. search needs) (λ c. search needs) (λ c κs. search needs) (λ c. search needs) returns-2)

@@ -3,9 +3,8 @@ use Prim.Native.Nat.{_-_, _≤_}
 use borrow.Author.Needs.{needs}
 use denote.Ref.{now}
 use lib.ListN.{drop, drop-of-length-le, length, length-drop}
-use lib.Seq.{length-take-le}
 use mathlib.Core.List.{[]}
-use mathlib.Core.Path.{_≡_, refl, sym}
+use mathlib.Core.Path.{_≡_, refl}
 use native.Mathlib.Omega.{arith}
 use Rattle.common.proofs.Lists.{part-rest}
 use Rattle.common.specs.Lists.{find}
@@ -34,20 +33,16 @@ returns c =
     let n : length (l .space) ≡ 20 = c .before .put-text-arg .given .0 .1 in
     reached-end (l .inv .2) (omega arith) (rw (n, q) at (clipped (c .put-text .ensures)))
 
-slice-aggregate-answer-line : tie.Need-slice-aggregate-answer-line Inv-loop μ-loop
-slice-aggregate-answer-line c = sym (length-take-le (c .before .before .index-of .result) _ (c .before .before .index-of .ensures .1))
-
 loop-again : tie.Need-loop-again Inv-loop μ-loop
 loop-again c =
-    let input = now (c .before .before .before .before .before .before .before .before .before .before .before .before .args .input) in
-    let l = c .before .before .before .before .before .before .before .before .before .loop in
+    let input = now (c .before .before .before .before .before .before .before .before .before .before .before .args .input) in
+    let l = c .before .before .before .before .before .before .before .before .loop in
     let rest = drop (l .from) input in
     let q = part-rest input (l .from) in
     let d = length-drop (l .from) input in
-    let i : c .before .before .before .before .before .before .index-of .result ≡ find 10 rest = rw q at (c .before .before .before .before .before .before .index-of .ensures .0) in
-    let le : c .before .before .before .before .before .before .index-of .result ≤ length rest = rw q at (c .before .before .before .before .before .before .index-of .ensures .1) in
-    let w = rw (q, i) at (c .before .before .answer-line .ensures) in
-    (omega arith, search needs, rw i (reached-row (l .inv .2) (omega arith) w))
+    let i : c .before .before .before .before .before .index-of .result ≡ find 10 rest = rw q at (c .before .before .before .before .before .index-of .ensures .0) in
+    let le : c .before .before .before .before .before .index-of .result ≤ length rest = rw q at (c .before .before .before .before .before .index-of .ensures .1) in
+    (omega arith, search needs, rw i (reached-row (l .inv .2) (omega arith) (rw i at (c .before .before .answer-line .ensures))))
 
 returns-2 : tie.Need-returns-2 Inv-loop μ-loop
 returns-2 c =
@@ -57,4 +52,4 @@ returns-2 c =
     reached-end (l .inv .2) (rw n (omega arith)) (rw n)
 
 pub answer-rows-spec : {M : Type 1} → statement M
-answer-rows-spec = tie.close (tie.spec Inv-loop μ-loop loop-holds (λ c. search needs) (λ c. search needs) (λ c. search needs) (λ c κs. search needs) (λ c κs. search needs) (λ c. search needs) returns slice-aggregate-answer-line (λ c κs. search needs) (λ c. search needs) (λ c. search needs) (λ c. search needs) loop-again (λ c. search needs) returns-2)
+answer-rows-spec = tie.close (tie.spec Inv-loop μ-loop loop-holds (λ c. search needs) (λ c. search needs) (λ c. search needs) (λ c κs. search needs) (λ c κs. search needs) (λ c. search needs) returns (λ c κs. search needs) (λ c. search needs) (λ c. search needs) (λ c. search needs) loop-again (λ c. search needs) returns-2)
