@@ -21,7 +21,7 @@ use thumb_print::print_thumb;
 pub mod block;
 
 // A word of one of the two sets.
-pub enum Word {
+enum Word {
     Arm(u32),
     Thumb(u16),
 }
