@@ -2,6 +2,7 @@
 use Prim.Native.Nat.{_-_, _≤_, ℕ}
 use mathlib.Core.Bool.{_&&_, not}
 use native.Mathlib.Omega.{arith}
+use Rattle.lines.proofs.Address.{address-within}
 use Rattle.lines.proofs.Lengths.{condAt-within, either-within, ifSet-within, regAt-within, registers-within}
 use Rattle.arm7tdmi.specs.Alu.{aluOpCode, decodeRotatedImmediate, isSettingFlags}
 use Rattle.arm.specs.Fields.{branchTarget, halfwordType, ldrStrHsImmOffset, ldrStrHsRegOffset, ldrStrOffset, operand2}
@@ -104,7 +105,7 @@ pub line-within : (form : Form) (fmt : ArmFormat) (pc raw : ℕ) → Within 5 80
 unfolding lineOf fmtBx fmtBranch fmtSwi fmtMulMla fmtMullMlal fmtLdrStr fmtLdrStrHsRegOffset fmtLdrStrHsImmOffset fmtDataProcessing fmtSwp fmtMrs fmtMsr fmtMsrFlags
 line-within form A.BranchExchange pc raw = loosely (exactly (text "bx") & bx-cond form raw & exactly (text "\t") & reg raw 0 4 (omega arith)) (omega arith) (omega arith)
 line-within form A.BranchLink pc raw =
-    loosely (exactly (text "b") & ifSet-within raw 24 (exactly (text "l")) & mark raw & exactly (text "\t") & prefixed-within 1 (branchTarget pc raw) (omega arith))
+    loosely (exactly (text "b") & ifSet-within raw 24 (exactly (text "l")) & mark raw & exactly (text "\t") & address-within form (branchTarget pc raw))
     (omega arith) (omega arith)
 line-within form A.SoftwareInterrupt pc raw =
     loosely (exactly (text "swi") & mark raw & exactly (text "\t#") & prefixed-within 1 (bitRange raw 0 24) (omega arith)) (omega arith) (omega arith)

@@ -1,11 +1,13 @@
 -- The lines of ARM words, bench and sheet: one definition for each `fmt_` function of the Rust's arm/disass.rs, in its order, with the Rust's
--- format beside it. The form stands where the sheet line differs: S3 of document 01 (S1 and S4 are an operand's, S2 the kind's). Assumes nothing.
+-- format beside it. The form stands where the sheet line differs: S3 of document 01 (S1 and S4 are an operand's, S2 the kind's), and S9
+-- where an address is shown. Assumes nothing.
 use mathlib.Core.Bool.{Bool, true, false, cond, _&&_, not}
 use mathlib.Core.List.{List, [], _++_}
 use Prim.Native.Nat.{ℕ, _^_}
 use Rattle.common.specs.Bits.{bit, bitRange}
 use Rattle.text.specs.Text.{text}
 use Rattle.text.specs.Digits.{prefixed}
+use Rattle.lines.specs.Address.{address}
 use Rattle.lines.specs.Pieces.{regAt, condAt, either, ifSet, registers}
 use Rattle.arm7tdmi.specs.Alu.{aluOpCode, isSettingFlags, decodeRotatedImmediate}
 use Rattle.arm.specs.Fields.{branchTarget, operand2, ldrStrOffset, ldrStrHsImmOffset, ldrStrHsRegOffset, halfwordType}
@@ -58,8 +60,8 @@ unfoldable pub fmtBx : Form → ℕ → List ℕ
 fmtBx form raw = text "bx" ++ bxCond form raw ++ text "\t" ++ regAt raw 0 4
 
 -- ---- fmt_branch: "b{link}{cond}\t{ofs:#x}"
-unfoldable pub fmtBranch : ℕ → ℕ → List ℕ
-fmtBranch pc raw = text "b" ++ ifSet raw 24 (text "l") ++ condMark raw ++ text "\t" ++ prefixed 1 (branchTarget pc raw)
+unfoldable pub fmtBranch : Form → ℕ → ℕ → List ℕ
+fmtBranch form pc raw = text "b" ++ ifSet raw 24 (text "l") ++ condMark raw ++ text "\t" ++ address form (branchTarget pc raw)
 
 -- ---- fmt_data_processing: "{opcode}{S}{cond}\t{Rd}, "
 unfoldable pub fmtMove : Form → ℕ → AluOpCode → List ℕ
@@ -177,7 +179,7 @@ fmtSwp raw =
 -- ---- the line of a word of a kind
 unfoldable pub lineOf : Form → ArmFormat → ℕ → ℕ → List ℕ
 lineOf form A.BranchExchange pc raw = fmtBx form raw
-lineOf form A.BranchLink pc raw = fmtBranch pc raw
+lineOf form A.BranchLink pc raw = fmtBranch form pc raw
 lineOf form A.SoftwareInterrupt pc raw = fmtSwi raw
 lineOf form A.Multiply pc raw = fmtMulMla raw
 lineOf form A.MultiplyLong pc raw = fmtMullMlal raw

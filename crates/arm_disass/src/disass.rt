@@ -22,6 +22,7 @@ use arm_operand::put_rd;
 use arm7tdmi::Form;
 use arm7tdmi::alu::AluOpCode;
 use arm7tdmi::alu::BarrelShifterValue;
+use lines::put_address;
 use lines::put_cond_at;
 use lines::put_either;
 use lines::put_mark;
@@ -83,14 +84,14 @@ pub fn fmt_bx(buf: &mut [u8], at: usize, form: Form, raw: u32) -> usize
     put_reg_at(buf, at, raw, 0, 4)
 }
 
-pub fn fmt_branch(buf: &mut [u8], at: usize, pc: u32, raw: u32) -> usize
-    ensures { λ r. ⌜ Wrote (now (buf .entry)) at (fmtBranch pc raw) (now (buf .exit)) r ⌝ }
+pub fn fmt_branch(buf: &mut [u8], at: usize, form: Form, pc: u32, raw: u32) -> usize
+    ensures { λ r. ⌜ Wrote (now (buf .entry)) at (fmtBranch form pc raw) (now (buf .exit)) r ⌝ }
 {
     let target = branch_target(pc, raw);
     let at = put_byte(buf, at, b'b');
     let at = put_mark(buf, at, raw, 24, b'l');
     let at = put_cond_tab(buf, at, raw);
-    put_0x(buf, at, 1, target)
+    put_address(buf, at, form, target)
 }
 
 // mov and mvn.

@@ -27,7 +27,7 @@ pub fn put_line(buf: &mut [u8], form: Form, fmt: ArmFormat, pc: u32, raw: u32) -
 {
     match fmt {
         ArmFormat::BranchExchange => fmt_bx(buf, 0, form, raw),
-        ArmFormat::BranchLink => fmt_branch(buf, 0, pc, raw),
+        ArmFormat::BranchLink => fmt_branch(buf, 0, form, pc, raw),
         ArmFormat::SoftwareInterrupt => fmt_swi(buf, 0, raw),
         ArmFormat::Multiply => fmt_mul_mla(buf, 0, raw),
         ArmFormat::MultiplyLong => fmt_mull_mlal(buf, 0, raw),

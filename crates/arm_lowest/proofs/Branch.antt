@@ -9,6 +9,8 @@ use native.Mathlib.Omega.{arith}
 use Rattle.arm7tdmi.proofs.Names.{reg-back, reg-wordy}
 use Rattle.arm.specs.Fields.{branchTarget}
 use Rattle.arm7tdmi.specs.Names.{condNames, condText, regString}
+use Rattle.lines.proofs.Address.{address-back, address-wordy}
+use Rattle.lines.specs.Address.{address}
 use Rattle.lines.specs.Pieces.{condAt, ifSet, regAt}
 use Rattle.arm7tdmi.specs.Signed.{extended, moved}
 use Rattle.arm7tdmi.specs.declared.Form.the-variants.{Bench, Sheet}
@@ -17,13 +19,15 @@ use Rattle.arm_disass.specs.Line.{bxCond, fmtBranch, fmtBx, fmtSwi, lineOf}
 use Rattle.arm_print.specs.Print.{printsCond}
 use Rattle.arm_lowest.proofs.Found.{HasLine, Law, exact, fifteen, least-found, pieces-read, printed-line}
 use Rattle.arm_lowest.proofs.Heads.{Mnemonic, branch-reads, branchStem, bx-reads, swi-reads}
-use Rattle.arm_lowest.proofs.Parts.{prefixed-back, prefixed-wordy, regroup}
+use Rattle.arm_lowest.proofs.Parts.{regroup}
 use Rattle.arm_candidate.specs.CandidateSimple.{branchCand, bxCand, condShown, fieldOf, swiCand}
 use Rattle.arm_words.proofs.Branch.{BranchFields, BxFields, SwiFields, branch-read, branch-words, branchWord, bx-least, bx-read, bx-words, bxWord, swi-read, swi-words, swiWord}
 use Rattle.arm_words.proofs.Scheme.{Words, bench, shown}
 use Rattle.common.proofs.Tests.{by-test}
 use Rattle.common.specs.Bits.{bitRange}
 use Rattle.reading.proofs.Pieces.{Pieces, good, last, piece, spell, word-nth}
+use Rattle.text.proofs.Digits.{prefixed-back}
+use Rattle.text.proofs.Word.{prefixed-wordy}
 use Rattle.text.specs.Digits.{prefixed}
 use Rattle.text.specs.Text.{text}
 use Rattle.text.specs.Word.{isWord}
@@ -41,13 +45,13 @@ field-back : (pc n : ℕ) → pc < 2 ^ 32 → n < 2 ^ 24 → fieldOf pc (target 
 unfolding fieldOf extended
 field-back pc n h g = by-test (ltb n (2 ^ 23)) (λ e. rw e (omega (arith, ltb-true))) (λ e. rw e (omega (arith, ltb-false)))
 
-module _ (pc : ℕ) {c l n : ℕ} (f : BranchFields c l n) where
+module _ (form : Form) (pc : ℕ) {c l n : ℕ} (f : BranchFields c l n) where
   abbrev branchPieces : Pieces
-  branchPieces = piece (branchStem l ++ condText c) (text "\t") (last (prefixed 1 (target pc n)))
+  branchPieces = piece (branchStem l ++ condText c) (text "\t") (last (address form (target pc n)))
 
-  branch-spelled : fmtBranch pc (branchWord c l n) ≡ spell branchPieces
+  branch-spelled : fmtBranch form pc (branchWord c l n) ≡ spell branchPieces
   unfolding fmtBranch branchTarget ifSet condAt
-  branch-spelled = let r = branch-read f in rw (r .0, r .1, r .2) (regroup (branchStem l ++ condText c) (text "\t" ∷ prefixed 1 (target pc n) ∷ []))
+  branch-spelled = let r = branch-read f in rw (r .0, r .1, r .2) (regroup (branchStem l ++ condText c) (text "\t" ∷ address form (target pc n) ∷ []))
 
   module _ (hc : c < 15) where
     branch-mnemonic : Mnemonic 1 (l * 2 ^ 24) c (branchStem l ++ condText c)
@@ -55,18 +59,18 @@ module _ (pc : ℕ) {c l n : ℕ} (f : BranchFields c l n) where
 
     branch-good : good branchPieces ≡ true
     unfolding isWord
-    branch-good = rw (branch-mnemonic .one-word, prefixed-wordy (target pc n))
+    branch-good = rw (branch-mnemonic .one-word, address-wordy form (target pc n))
 
-    branch-back : (form : Form) → pc < 2 ^ 32 → branchCand form pc (l * 2 ^ 24) c (spell branchPieces) ≡ branchWord c l n
+    branch-back : pc < 2 ^ 32 → branchCand form pc (l * 2 ^ 24) c (spell branchPieces) ≡ branchWord c l n
     unfolding branchCand
-    branch-back form h = rw (word-nth 1 branchPieces branch-good, prefixed-back (target pc n) (target-lt pc n), field-back pc n h (f .hn))
+    branch-back h = rw (word-nth 1 branchPieces branch-good, address-back form (target pc n) (target-lt pc n), field-back pc n h (f .hn))
 
 pub branch-law : (form : Form) (pc : ℕ) → pc < 2 ^ 32 → Words form A.BranchLink (Law 1 branchCand form pc)
 unfolding lineOf
 branch-law form pc h = branch-words form (Law 1 branchCand form pc) (λ c l n f e t q.
     let p = printed-line form A.BranchLink pc (branchWord c l n) e t q in
     let hc = fifteen (branchWord c l n) (branch-read f .0) (f .hc) (p .when refl) in
-    pieces-read (branchPieces pc f) (p .text ∙ branch-spelled pc f) (branch-good pc f hc) (branch-mnemonic pc f hc) (exact (branch-back pc f hc form h)))
+    pieces-read (branchPieces form pc f) (p .text ∙ branch-spelled form pc f) (branch-good form pc f hc) (branch-mnemonic form pc f hc) (exact (branch-back form pc f hc h)))
 
 -- ---- swi: exact
 module _ {c n : ℕ} (f : SwiFields c n) where
@@ -80,11 +84,11 @@ module _ {c n : ℕ} (f : SwiFields c n) where
   module _ (hc : c < 15) where
     swi-good : good swiPieces ≡ true
     unfolding isWord
-    swi-good = rw (swi-reads c hc .one-word, prefixed-wordy n)
+    swi-good = rw (swi-reads c hc .one-word, prefixed-wordy 1 n (omega arith))
 
     swi-back : (form : Form) (pc : ℕ) → swiCand form pc 0 c (spell swiPieces) ≡ swiWord c n
     unfolding swiCand
-    swi-back form pc = rw (word-nth 1 swiPieces swi-good, prefixed-back n (omega arith))
+    swi-back form pc = rw (word-nth 1 swiPieces swi-good, prefixed-back 1 n (omega arith))
 
 pub swi-law : (form : Form) (pc : ℕ) → Words form A.SoftwareInterrupt (Law 10 swiCand form pc)
 unfolding lineOf

@@ -13,7 +13,7 @@ use Rattle.arm.specs.Fields.{bsOp, operand2, shiftRegBy}
 use Rattle.arm7tdmi.specs.Names.{regString}
 use Rattle.arm7tdmi.specs.declared.alu.Sign.{Sign}
 use Rattle.arm_operand.specs.Operand.{byAmount, byRegister, decodedText, fmtOperand2, immediate, isLsl0, shiftBy, shiftText, shiftedRegister}
-use Rattle.arm_lowest.proofs.Parts.{prefixed-wordy, regroup}
+use Rattle.arm_lowest.proofs.Parts.{regroup}
 use Rattle.arm_lowest.proofs.Rotation.{immediate-least, immediate-lt, immediateAt}
 use Rattle.arm_candidate.specs.CandidateOperand.{immediateOf, isNumber, operandOf, shiftNamed, shiftNames, shiftedOf}
 use Rattle.arm_words.proofs.Operand.{ShiftLeast, operand-read, shift-least, shiftLeast}
@@ -23,7 +23,7 @@ use Rattle.common.specs.Bits.{bit, bitRange}
 use Rattle.common.specs.Lists.{first, same}
 use Rattle.reading.proofs.Pieces.{Pieces, first-word, firstOf, good, last, piece, spell, word-nth}
 use Rattle.text.proofs.Digits.{dec-back}
-use Rattle.text.proofs.Word.{dec-first, dec-wordy, wordy}
+use Rattle.text.proofs.Word.{dec-first, dec-wordy, prefixed-wordy, wordy}
 use Rattle.text.specs.Digits.{dec, prefixed}
 use Rattle.text.specs.Text.{text}
 use Rattle.text.specs.Word.{isWord, word}
@@ -170,7 +170,7 @@ op-spelled w i n h e =
 
 pub op-good : (i n : ℕ) → good (opPieces i n) ≡ true
 unfolding isWord
-op-good i n = by-test (eqb i 1) (λ e. rw (e, dec-wordy (immediateAt n), prefixed-wordy (immediateAt n))) (λ e. rw e (shift-good n))
+op-good i n = by-test (eqb i 1) (λ e. rw (e, dec-wordy (immediateAt n), prefixed-wordy 1 (immediateAt n) (omega arith))) (λ e. rw e (shift-good n))
 
 -- the lowest twelve bits with the same words
 abbrev pub opLeast : ℕ → ℕ → ℕ

@@ -18,7 +18,7 @@ use Rattle.arm_disass.specs.Line.{fmtMrs, fmtMsr, fmtMsrFlags, lineOf}
 use Rattle.arm_lowest.proofs.Found.{Law, exact, fifteen, least-found, pieces-read, printed-line}
 use Rattle.arm_lowest.proofs.Heads.{mrs-reads, msr-reads, pick}
 use Rattle.arm_lowest.proofs.Operand.{lead, number-back, op-least, op-spelled, opLeast, register-back, shift-alone, shift-good, shift-same, shiftPieces}
-use Rattle.arm_lowest.proofs.Parts.{prefixed-wordy, regroup}
+use Rattle.arm_lowest.proofs.Parts.{regroup}
 use Rattle.arm_lowest.proofs.Rotation.{immediate-least, immediateAt}
 use Rattle.arm_candidate.specs.CandidateOperand.{operandOf}
 use Rattle.reading.specs.Parts.{flag}
@@ -29,7 +29,7 @@ use Rattle.arm_words.proofs.Status.{FlagsFields, MrsFields, MsrFields, flags-le
 use Rattle.common.proofs.Tests.{by-test}
 use Rattle.common.specs.Bits.{bit, bitRange}
 use Rattle.reading.proofs.Pieces.{Pieces, first-rest, from-nth, good, has-gaps, last, none, piece, spell, word-nth}
-use Rattle.text.proofs.Word.{dec-wordy, wordy}
+use Rattle.text.proofs.Word.{dec-wordy, prefixed-wordy, wordy}
 use Rattle.text.specs.Digits.{dec, prefixed}
 use Rattle.text.specs.Text.{text}
 use Rattle.text.specs.Word.{behind, has, isWord}
@@ -138,7 +138,7 @@ operand-good : (i n : ℕ) → good (flagsOperand i n) ≡ true
 unfolding isWord
 operand-good i n =
     by-test (eqb i 1)
-    (λ e. rw (e, dec-wordy (immediateAt n), prefixed-wordy (immediateAt n), truth-wordy (immediateAt n) 31, truth-wordy (immediateAt n) 30, truth-wordy (immediateAt n) 29, truth-wordy (immediateAt n) 28))
+    (λ e. rw (e, dec-wordy (immediateAt n), prefixed-wordy 1 (immediateAt n) (omega arith), truth-wordy (immediateAt n) 31, truth-wordy (immediateAt n) 30, truth-wordy (immediateAt n) 29, truth-wordy (immediateAt n) 28))
     (λ e. rw e (shift-good n))
 
 operand-spelled : (w i n : ℕ) → bitRange w 25 26 ≡ i → bitRange w 0 12 ≡ n → fmtOperand2 (operand2 w) ++ flagsComment (decodeRotatedImmediate (operand2 w)) ≡ lead i ++ spell (flagsOperand i n)

@@ -2,8 +2,11 @@
 use Prim.Native.Nat.{_-_, ℕ}
 use mathlib.Core.Path.{refl}
 use native.Mathlib.Omega.{arith}
+use lib.Dec.{eqb}
+use Rattle.lines.proofs.Address.{address-within}
 use Rattle.lines.proofs.Lengths.{ifSet-within, regAt-within, either-within}
 use Rattle.arm7tdmi.specs.Alu.{decodeRotatedImmediate}
+use Rattle.arm.specs.Fields.{pcRelative}
 use Rattle.arm7tdmi.specs.Names.{regNames, regString}
 use Rattle.arm7tdmi.specs.declared.Form.{Form}
 use Rattle.arm7tdmi.specs.declared.Form.the-variants.{Bench, Sheet}
@@ -12,8 +15,8 @@ use Rattle.arm7tdmi.specs.declared.alu.BarrelShifterValue.{BarrelShifterValue}
 use Rattle.arm7tdmi.specs.declared.alu.ShiftRegisterBy.{ShiftRegisterBy}
 use Rattle.arm7tdmi.specs.declared.alu.ShiftedRegister.{ShiftedRegister}
 use Rattle.arm7tdmi.specs.declared.alu.Sign.{Sign}
-use Rattle.arm_operand.specs.Operand.{benchOffset, byAmount, byRegister, comment, commented, decodedText, fmtOperand2, fmtRnOffset, immediate, immediateOffset, indexed, isLsl0, magnitude, offsetText, sheetOffset, shiftBy, shiftText, shiftedRegister, signText, signedRegister, valueComment, addedRegister, flagText, flags, flagsComment, rdText}
-use Rattle.common.specs.Bits.{bit}
+use Rattle.arm_operand.specs.Operand.{benchOffset, byAmount, byRegister, comment, decodedText, fmtOperand2, fmtRnOffset, immediate, immediateOffset, indexed, isLsl0, magnitude, offsetText, sheetOffset, shiftBy, shiftText, shiftedRegister, signText, signedRegister, valueComment, addedRegister, flagText, flags, flagsComment, rdText}
+use Rattle.common.specs.Bits.{bit, bitRange}
 use Rattle.text.proofs.Within.{Within, _&_, dec-within, exactly, loosely, none, of-two, prefixed-within, short-entry, or-none}
 use Rattle.text.specs.Text.{text}
 use Rattle.arm7tdmi.specs.declared.alu.BarrelShiftOpCode.the-variants as Shift
@@ -94,15 +97,17 @@ indexed-within form raw o =
     (loosely (exactly (text ", ") & offset form raw o & exactly (text "]") & ifSet-within raw 21 (exactly (text "!"))) (omega arith) (omega arith))
     (loosely (exactly (text "], ") & offset form raw o) (omega arith) (omega arith))
 
-comment-within : (pc raw : ℕ) (o : BarrelShifterValue) → Within 0 13 (comment pc raw o)
+comment-within : (form : Form) (pc raw : ℕ) (o : BarrelShifterValue) → Within 0 13 (comment form pc raw o)
 unfolding comment valueComment
-comment-within pc raw (Value.ImmediateValue v) = loosely (exactly (text "\t; ") & prefixed-within 1 (commented pc raw v) (omega arith)) (omega arith) (omega arith)
-comment-within pc raw (Value.RotatedImmediate v n) = none 13
-comment-within pc raw (Value.ShiftedRegister s) = none 13
+comment-within form pc raw (Value.ImmediateValue v) =
+    loosely (exactly (text "\t; ") & of-two (eqb (bitRange raw 16 20) 15) (address-within form (pcRelative pc v)) (prefixed-within 1 v (omega arith)))
+    (omega arith) (omega arith)
+comment-within form pc raw (Value.RotatedImmediate v n) = none 13
+comment-within form pc raw (Value.ShiftedRegister s) = none 13
 
 pub rn-offset : (form : Form) (pc raw : ℕ) (o : BarrelShifterValue) → Within 3 42 (fmtRnOffset form pc raw o)
 unfolding fmtRnOffset
-rn-offset form pc raw o = exactly (text "[") & regAt-within raw 16 20 (omega arith) & indexed-within form raw o & comment-within pc raw o
+rn-offset form pc raw o = exactly (text "[") & regAt-within raw 16 20 (omega arith) & indexed-within form raw o & comment-within form pc raw o
 
 pub rd : (form : Form) (raw : ℕ) → Within 2 3 (rdText form raw)
 unfolding rdText

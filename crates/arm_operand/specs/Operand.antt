@@ -1,5 +1,5 @@
 -- The operands of ARM lines that are more than a field, by the Rust's arm/disass.rs, with its formats beside them. The form stands where the sheet line
--- differs: S1 and S4 of document 01. Assumes nothing.
+-- differs: S1 and S4 of document 01, and S9 where an address is shown. Assumes nothing.
 use mathlib.Core.Bool.{Bool, false, cond, true}
 use mathlib.Core.List.{List, [], _++_}
 use Prim.Native.Nat.{ℕ, _-_, _%_, _^_}
@@ -8,6 +8,7 @@ use Rattle.common.specs.Bits.{bit, bitRange}
 use Rattle.text.specs.Text.{text}
 use Rattle.text.specs.Digits.{dec, prefixed}
 use Rattle.arm7tdmi.specs.Names.{regString}
+use Rattle.lines.specs.Address.{address}
 use Rattle.lines.specs.Pieces.{regAt, ifSet, either}
 use Rattle.arm7tdmi.specs.Alu.{decodeRotatedImmediate}
 use Rattle.arm.specs.Fields.{pcRelative}
@@ -99,20 +100,17 @@ unfoldable pub indexed : Form → ℕ → BarrelShifterValue → List ℕ
 indexed form raw o =
     cond (bit raw 24) (text ", " ++ offsetText form raw o ++ text "]" ++ ifSet raw 21 (text "!")) (text "], " ++ offsetText form raw o)
 
--- "The comment adds address + 8 when Rn is pc"
-unfoldable pub commented : ℕ → ℕ → ℕ → ℕ
-commented pc raw v = cond (eqb (bitRange raw 16 20) 15) (pcRelative pc v) v
+-- "The comment adds address + 8 when Rn is pc": it is an address then, "the comment of an ARM transfer where Rn is pc"
+unfoldable pub valueComment : Form → ℕ → ℕ → ℕ → List ℕ
+valueComment form pc raw v = text "\t; " ++ cond (eqb (bitRange raw 16 20) 15) (address form (pcRelative pc v)) (prefixed 1 v)
 
-unfoldable pub valueComment : ℕ → ℕ → ℕ → List ℕ
-valueComment pc raw v = text "\t; " ++ prefixed 1 (commented pc raw v)
-
-unfoldable pub comment : ℕ → ℕ → BarrelShifterValue → List ℕ
-comment pc raw (Value.ImmediateValue v) = valueComment pc raw v
-comment pc raw (Value.RotatedImmediate v n) = []
-comment pc raw (Value.ShiftedRegister s) = []
+unfoldable pub comment : Form → ℕ → ℕ → BarrelShifterValue → List ℕ
+comment form pc raw (Value.ImmediateValue v) = valueComment form pc raw v
+comment form pc raw (Value.RotatedImmediate v n) = []
+comment form pc raw (Value.ShiftedRegister s) = []
 
 unfoldable pub fmtRnOffset : Form → ℕ → ℕ → BarrelShifterValue → List ℕ
-fmtRnOffset form pc raw o = text "[" ++ regAt raw 16 20 ++ indexed form raw o ++ comment pc raw o
+fmtRnOffset form pc raw o = text "[" ++ regAt raw 16 20 ++ indexed form raw o ++ comment form pc raw o
 
 -- ---- Rd of data processing
 -- bench: "Data processing takes Rd from bits 19-16, as Rn". S1: "data processing takes Rd from bits 15-12"

@@ -1,7 +1,7 @@
 // Operands of ARM lines that are more than a field.
 ghost use mathlib.Core.Path.{_≡_};
 ghost use Rattle.text.specs.Wrote.{Wrote};
-ghost use Rattle.arm_operand.specs.Operand.{shiftText, isLsl0, byAmount, byRegister, shiftBy, shiftedRegister, immediate, decodedText, fmtOperand2, benchOffset, magnitude, sheetOffset, immediateOffset, signText, signedRegister, offsetText, indexed, commented, valueComment, comment, fmtRnOffset, rdText, flagText, flags, flagsComment, addedRegister};
+ghost use Rattle.arm_operand.specs.Operand.{shiftText, isLsl0, byAmount, byRegister, shiftBy, shiftedRegister, immediate, decodedText, fmtOperand2, benchOffset, magnitude, sheetOffset, immediateOffset, signText, signedRegister, offsetText, indexed, valueComment, comment, fmtRnOffset, rdText, flagText, flags, flagsComment, addedRegister};
 use arm::pc_relative;
 use arm7tdmi::Form;
 use arm7tdmi::alu::BarrelShiftOpCode;
@@ -13,6 +13,7 @@ use arm7tdmi::alu::Sign;
 use arm7tdmi::bit::bit;
 use arm7tdmi::bit::bit_range;
 use arm7tdmi::put_reg;
+use lines::put_address;
 use lines::put_either;
 use lines::put_mark;
 use lines::put_reg_at;
@@ -193,29 +194,29 @@ fn put_indexed(buf: &mut [u8], at: usize, form: Form, raw: u32, offset: BarrelSh
     put_offset(buf, at, form, raw, offset)
 }
 
-// What the comment says of an immediate offset: with pc as base, the address that it comes to.
-fn commented(pc: u32, raw: u32, v: u32) -> u32
-    ensures { λ r. ⌜ r ≡ commented pc raw v ⌝ }
+// What an immediate offset comes to: with pc as base an address, else the offset itself.
+fn put_value(buf: &mut [u8], at: usize, form: Form, pc: u32, raw: u32, offset: u32) -> usize
+    ensures { λ r. ⌜ Wrote (now (buf .entry)) at (valueComment form pc raw offset) (now (buf .exit)) r ⌝ }
 {
-    if bit_range(raw, 16, 20) == 15 {
-        return pc_relative(pc, v);
-    }
-    v
-}
-
-fn put_value(buf: &mut [u8], at: usize, pc: u32, raw: u32, v: u32) -> usize
-    ensures { λ r. ⌜ Wrote (now (buf .entry)) at (valueComment pc raw v) (now (buf .exit)) r ⌝ }
-{
-    let shown = commented(pc, raw, v);
     let at = put_text(buf, at, b"\t; ");
-    put_0x(buf, at, 1, shown)
+    if bit_range(raw, 16, 20) == 15 {
+        return put_address(buf, at, form, pc_relative(pc, offset));
+    }
+    put_0x(buf, at, 1, offset)
 }
 
-fn put_comment(buf: &mut [u8], at: usize, pc: u32, raw: u32, offset: BarrelShifterValue) -> usize
-    ensures { λ r. ⌜ Wrote (now (buf .entry)) at (comment pc raw offset) (now (buf .exit)) r ⌝ }
+fn put_comment(
+    buf: &mut [u8],
+    at: usize,
+    form: Form,
+    pc: u32,
+    raw: u32,
+    offset: BarrelShifterValue,
+) -> usize
+    ensures { λ r. ⌜ Wrote (now (buf .entry)) at (comment form pc raw offset) (now (buf .exit)) r ⌝ }
 {
     match offset {
-        BarrelShifterValue::ImmediateValue(v) => put_value(buf, at, pc, raw, v),
+        BarrelShifterValue::ImmediateValue(v) => put_value(buf, at, form, pc, raw, v),
         BarrelShifterValue::RotatedImmediate(_, _) => at,
         BarrelShifterValue::ShiftedRegister(_) => at,
     }
@@ -235,7 +236,7 @@ pub fn fmt_rn_offset(
     let at = put_byte(buf, at, b'[');
     let at = put_reg_at(buf, at, raw, 16, 20);
     let at = put_indexed(buf, at, form, raw, offset);
-    put_comment(buf, at, pc, raw, offset)
+    put_comment(buf, at, form, pc, raw, offset)
 }
 
 // S1: the sheet takes Rd from bits 15-12, the bench from 19-16.

@@ -1,2 +1,3 @@
 pub mod Registers
 pub mod Lengths
+pub mod Address

@@ -1,2 +1,3 @@
 pub mod Pieces
+pub mod Address
 pub mod Answer

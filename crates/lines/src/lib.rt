@@ -5,12 +5,15 @@ ghost use mathlib.Core.Path.{_≡_};
 ghost use Prim.Native.Nat.{_%_, _^_, _≤_};
 ghost use Rattle.text.specs.Text.{text};
 ghost use Rattle.text.specs.Wrote.{Wrote, WroteBoth};
+ghost use Rattle.lines.specs.Address.{address, addressWidth};
 ghost use Rattle.lines.specs.Answer.{line, printed};
 ghost use Rattle.lines.specs.Pieces.{regAt, condAt, either, ifSet, listed, registers};
+use arm7tdmi::Form;
 use arm7tdmi::bit::bit;
 use arm7tdmi::bit::bit_range;
 use arm7tdmi::cond::put_cond;
 use arm7tdmi::put_reg;
+use text::put::put_0x;
 use text::put::put_if;
 use text::put::put_text;
 
@@ -113,6 +116,23 @@ pub fn put_registers(buf: &mut [u8], at: usize, raw: u32, n: u32) -> usize
         rest = bit_range(raw, i, n);
     }
     o
+}
+
+// The least number of an address's digits. S9: eight on the sheet.
+fn address_width(form: Form) -> u32
+    ensures { λ r. ⌜ r ≡ addressWidth form ⌝ }
+{
+    match form {
+        Form::Bench => 1,
+        Form::Sheet => 8,
+    }
+}
+
+// An address.
+pub fn put_address(buf: &mut [u8], at: usize, form: Form, n: u32) -> usize
+    ensures { λ r. ⌜ Wrote (now (buf .entry)) at (address form n) (now (buf .exit)) r ⌝ }
+{
+    put_0x(buf, at, address_width(form), n)
 }
 
 // What a print answers: a refusal's number with length 0, or 0 with the line's length.

@@ -12,7 +12,7 @@ use lib.Seq.{drop-cons, getD-set-same, drop-set-lt}
 use borrow.Author.Tests.{eqb-true, eqb-false, eq-eqb, ne-eqb}
 use Rattle.common.specs.Lists.{first}
 use Rattle.common.proofs.Tests.{by-test, at}
-use Rattle.text.specs.Digits.{digit, digitValue, digits, hex, dec, valueFrom, value}
+use Rattle.text.specs.Digits.{digit, digitValue, digits, hex, prefixed, dec, valueFrom, value}
 
 -- ---- digits by what the code tests
 pub digits-none : (b k w n : ℕ) → n + w ≡ 0 → digits b k w n ≡ []
@@ -115,6 +115,10 @@ digits-most b (suc k) w n =
 pub hex-back : (w n : ℕ) → n < 2 ^ 32 → value 16 (hex w n) ≡ n
 unfolding hex
 hex-back w n h = value-digits 16 (omega arith) (omega arith) 8 w n h h
+
+pub prefixed-back : (w n : ℕ) → n < 2 ^ 32 → value 16 (drop 2 (prefixed w n)) ≡ n
+unfolding prefixed
+prefixed-back w n h = hex-back w n h
 
 pub dec-back : (n : ℕ) → n < 2 ^ 32 → value 10 (dec n) ≡ n
 unfolding dec

@@ -11,7 +11,7 @@ use borrow.Author.Tests.{eqb-true, le-ltb, lt-ltb, ltb-false, ltb-true}
 use Rattle.common.specs.Lists.{find, first}
 use Rattle.common.proofs.Tests.{by-test, and-left, and-right, at}
 use Rattle.text.specs.Word.{isWord, isGap, word, behind, after, has, all}
-use Rattle.text.specs.Digits.{digit, digits, hex, dec}
+use Rattle.text.specs.Digits.{digit, digits, hex, prefixed, dec}
 use Rattle.text.proofs.Digits.{below}
 
 -- ---- a byte, by the ranges that the code tests: 256 tests
@@ -132,6 +132,10 @@ module _ (b : ℕ) (hb : 1 < b) (hb′ : b ≤ 16) where
 pub hex-wordy : (w n : ℕ) → 0 < w → wordy (hex w n) ≡ true
 unfolding hex
 hex-wordy w n h = digits-wordy 16 (omega arith) (omega arith) 7 w n h
+
+pub prefixed-wordy : (w n : ℕ) → 0 < w → wordy (prefixed w n) ≡ true
+unfolding prefixed isWord
+prefixed-wordy w n h = wordy-all (hex w n) (hex-wordy w n h)
 
 pub dec-wordy : (n : ℕ) → wordy (dec n) ≡ true
 unfolding dec

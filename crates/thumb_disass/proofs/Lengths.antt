@@ -22,6 +22,7 @@ use Rattle.thumb.specs.declared.ThumbAluOps.the-variants as Op
 use Rattle.thumb.specs.declared.ThumbFormat.{ThumbFormat}
 use Rattle.thumb.specs.declared.ThumbFormat.the-variants as H
 use Rattle.arm7tdmi.proofs.Names.{reg-within}
+use Rattle.lines.proofs.Address.{address-within}
 use Rattle.lines.proofs.Lengths.{regAt-within, condAt-within, either-within, ifSet-within, registers-within}
 use Rattle.thumb_disass.specs.Line as L
 use Rattle.thumb_disass.specs.Line.{lineOf}
@@ -122,7 +123,7 @@ line-within form H.AluOps pc raw =
 line-within form H.HiRegOpOrBranchExchange pc raw = loosely (high form raw (opFormat5 (bitRange raw 8 10))) (omega arith) (omega arith)
 line-within form H.LdrPc pc raw =
     loosely (exactly (text "ldr\t") & high-rd raw & exactly (text ", [pc, #") & number (word8 raw) & exactly (text "] ; = #")
-    & number (pcLoadAddress pc raw)) (omega arith) (omega arith)
+    & address-within form (pcLoadAddress pc raw)) (omega arith) (omega arith)
 line-within form H.LdrStrRegOffset pc raw =
     loosely (ldr-str raw & ifSet-within raw 10 (exactly (text "b")) & exactly (text "\t") & rd raw & exactly (text ", [") & rs raw
     & exactly (text ", ")
@@ -152,9 +153,9 @@ line-within form H.LdmStm pc raw =
     loosely (either-within raw 11 (exactly (text "ldm")) (exactly (text "stm")) & exactly (text "\t") & base form raw & exactly (text "!, {") & list raw
     & exactly (text "}")) (omega arith) (omega arith)
 line-within form H.BranchConditional pc raw =
-    loosely (exactly (text "b") & condAt-within raw 8 12 & exactly (text "\t") & number (bcondTarget pc raw)) (omega arith) (omega arith)
+    loosely (exactly (text "b") & condAt-within raw 8 12 & exactly (text "\t") & address-within form (bcondTarget pc raw)) (omega arith) (omega arith)
 line-within form H.Swi pc raw = loosely (exactly (text "swi\t") & number (bitRange raw 0 8)) (omega arith) (omega arith)
-line-within form H.Branch pc raw = loosely (exactly (text "b\t") & number (branchTarget pc raw)) (omega arith) (omega arith)
+line-within form H.Branch pc raw = loosely (exactly (text "b\t") & address-within form (branchTarget pc raw)) (omega arith) (omega arith)
 line-within form H.BranchLongWithLink pc raw =
     loosely (exactly (text "bl\t#") & prefixed-within 8 (callHalf raw) (omega arith)) (omega arith) (omega arith)
 line-within form H.Undefined pc raw = loosely (exactly (text "<Undefined>")) (omega arith) (omega arith)

@@ -1,11 +1,13 @@
 -- The lines of Thumb words, bench and sheet: one definition for each `fmt_` function of the Rust's thumb/disass.rs, in its order, with the Rust's
--- format beside it. Where the sheet line differs (S5, S6 and S8 of document 01), an operand has the form; S7 is the kind's. Assumes nothing.
+-- format beside it. Where the sheet line differs (S5, S6 and S8 of document 01), an operand has the form; S7 is the kind's. S9 stands where an address
+-- is shown. Assumes nothing.
 use mathlib.Core.Bool.{cond}
 use mathlib.Core.List.{List, _++_}
 use Prim.Native.Nat.{ℕ, _+_, _*_}
 use Rattle.common.specs.Bits.{bit, bitRange}
 use Rattle.text.specs.Text.{text}
 use Rattle.text.specs.Digits.{dec, prefixed}
+use Rattle.lines.specs.Address.{address}
 use Rattle.lines.specs.Pieces.{regAt, condAt, either, ifSet, registers}
 use Rattle.arm7tdmi.specs.Alu.{barrelShiftOpCode}
 use Rattle.thumb.specs.Fields.{opFormat3, opFormat5, thumbAluOp, word8, pcLoadAddress, bcondTarget, branchTarget, callHalf}
@@ -80,9 +82,9 @@ fmtThumbHighRegOpOrBx form raw =
     op5Text (opFormat5 (bitRange raw 8 10)) ++ text "\t" ++ highOperands form raw (opFormat5 (bitRange raw 8 10))
 
 -- ---- fmt_thumb_ldr_pc: "ldr\t{Rd}, [pc, #{Imm:#x}] ; = #{effective:#x}"
-unfoldable pub fmtThumbLdrPc : ℕ → ℕ → List ℕ
-fmtThumbLdrPc pc raw =
-    text "ldr\t" ++ regAt raw 8 11 ++ text ", [pc, #" ++ prefixed 1 (word8 raw) ++ text "] ; = #" ++ prefixed 1 (pcLoadAddress pc raw)
+unfoldable pub fmtThumbLdrPc : Form → ℕ → ℕ → List ℕ
+fmtThumbLdrPc form pc raw =
+    text "ldr\t" ++ regAt raw 8 11 ++ text ", [pc, #" ++ prefixed 1 (word8 raw) ++ text "] ; = #" ++ address form (pcLoadAddress pc raw)
 
 -- ---- fmt_thumb_ldr_str_reg_offset: "{op}{b}\t{Rd}, [{Rb}, {Ro}]"
 unfoldable pub fmtThumbLdrStrRegOffset : ℕ → List ℕ
@@ -144,16 +146,16 @@ fmtThumbLdmStm form raw =
     either raw 11 (text "ldm") (text "stm") ++ text "\t" ++ baseText form raw ++ text "!, {" ++ registers raw 8 ++ text "}"
 
 -- ---- fmt_thumb_branch_with_cond: "b{cond}\t{addr:#x}"; "DExx prints `b`": condition 14 has no name
-unfoldable pub fmtThumbBranchWithCond : ℕ → ℕ → List ℕ
-fmtThumbBranchWithCond pc raw = text "b" ++ condAt raw 8 12 ++ text "\t" ++ prefixed 1 (bcondTarget pc raw)
+unfoldable pub fmtThumbBranchWithCond : Form → ℕ → ℕ → List ℕ
+fmtThumbBranchWithCond form pc raw = text "b" ++ condAt raw 8 12 ++ text "\t" ++ address form (bcondTarget pc raw)
 
 -- ---- fmt_thumb_swi: "swi\t{value:#x}"
 unfoldable pub fmtThumbSwi : ℕ → List ℕ
 fmtThumbSwi raw = text "swi\t" ++ prefixed 1 (bitRange raw 0 8)
 
 -- ---- fmt_thumb_branch: "b\t{addr:#x}"
-unfoldable pub fmtThumbBranch : ℕ → ℕ → List ℕ
-fmtThumbBranch pc raw = text "b\t" ++ prefixed 1 (branchTarget pc raw)
+unfoldable pub fmtThumbBranch : Form → ℕ → ℕ → List ℕ
+fmtThumbBranch form pc raw = text "b\t" ++ address form (branchTarget pc raw)
 
 -- ---- fmt_thumb_branch_long_with_link, a lone half of a call: "bl\t#0x{:08x}"
 unfoldable pub fmtThumbBranchLongWithLink : ℕ → List ℕ
@@ -166,7 +168,7 @@ lineOf form H.AddSub pc raw = fmtThumbAddSub raw
 lineOf form H.DataProcessImm pc raw = fmtThumbDataProcessImm raw
 lineOf form H.AluOps pc raw = fmtThumbAluOps raw
 lineOf form H.HiRegOpOrBranchExchange pc raw = fmtThumbHighRegOpOrBx form raw
-lineOf form H.LdrPc pc raw = fmtThumbLdrPc pc raw
+lineOf form H.LdrPc pc raw = fmtThumbLdrPc form pc raw
 lineOf form H.LdrStrRegOffset pc raw = fmtThumbLdrStrRegOffset raw
 lineOf form H.LdrStrSHB pc raw = fmtThumbLdrStrShb raw
 lineOf form H.LdrStrImmOffset pc raw = fmtThumbLdrStrImmOffset raw
@@ -176,8 +178,8 @@ lineOf form H.LoadAddress pc raw = fmtThumbLoadAddress raw
 lineOf form H.AddSp pc raw = fmtThumbAddSp form raw
 lineOf form H.PushPop pc raw = fmtThumbPushPop raw
 lineOf form H.LdmStm pc raw = fmtThumbLdmStm form raw
-lineOf form H.BranchConditional pc raw = fmtThumbBranchWithCond pc raw
+lineOf form H.BranchConditional pc raw = fmtThumbBranchWithCond form pc raw
 lineOf form H.Swi pc raw = fmtThumbSwi raw
-lineOf form H.Branch pc raw = fmtThumbBranch pc raw
+lineOf form H.Branch pc raw = fmtThumbBranch form pc raw
 lineOf form H.BranchLongWithLink pc raw = fmtThumbBranchLongWithLink raw
 lineOf form H.Undefined pc raw = text "<Undefined>"

@@ -8,6 +8,7 @@ use crate::operation::put_shb;
 use crate::operation::put_shift;
 use arm7tdmi::Form;
 use arm7tdmi::bit::bit_range;
+use lines::put_address;
 use lines::put_cond_at;
 use lines::put_either;
 use lines::put_mark;
@@ -79,8 +80,8 @@ pub fn fmt_thumb_high_reg_op_or_bx(buf: &mut [u8], at: usize, form: Form, raw: u
     put_high_operands(buf, at, form, raw, op)
 }
 
-pub fn fmt_thumb_ldr_pc(buf: &mut [u8], at: usize, pc: u32, raw: u32) -> usize
-    ensures { λ r. ⌜ Wrote (now (buf .entry)) at (fmtThumbLdrPc pc raw) (now (buf .exit)) r ⌝ }
+pub fn fmt_thumb_ldr_pc(buf: &mut [u8], at: usize, form: Form, pc: u32, raw: u32) -> usize
+    ensures { λ r. ⌜ Wrote (now (buf .entry)) at (fmtThumbLdrPc form pc raw) (now (buf .exit)) r ⌝ }
 {
     let imm = word8(raw);
     let effective = pc_load_address(pc, raw);
@@ -89,7 +90,7 @@ pub fn fmt_thumb_ldr_pc(buf: &mut [u8], at: usize, pc: u32, raw: u32) -> usize
     let at = put_text(buf, at, b", [pc, #");
     let at = put_0x(buf, at, 1, imm);
     let at = put_text(buf, at, b"] ; = #");
-    put_0x(buf, at, 1, effective)
+    put_address(buf, at, form, effective)
 }
 
 pub fn fmt_thumb_ldr_str_reg_offset(buf: &mut [u8], at: usize, raw: u32) -> usize
@@ -207,14 +208,14 @@ pub fn fmt_thumb_ldm_stm(buf: &mut [u8], at: usize, form: Form, raw: u32) -> usi
     put_byte(buf, at, b'}')
 }
 
-pub fn fmt_thumb_branch_with_cond(buf: &mut [u8], at: usize, pc: u32, raw: u32) -> usize
-    ensures { λ r. ⌜ Wrote (now (buf .entry)) at (fmtThumbBranchWithCond pc raw) (now (buf .exit)) r ⌝ }
+pub fn fmt_thumb_branch_with_cond(buf: &mut [u8], at: usize, form: Form, pc: u32, raw: u32) -> usize
+    ensures { λ r. ⌜ Wrote (now (buf .entry)) at (fmtThumbBranchWithCond form pc raw) (now (buf .exit)) r ⌝ }
 {
     let target = bcond_target(pc, raw);
     let at = put_byte(buf, at, b'b');
     let at = put_cond_at(buf, at, raw, 8, 12);
     let at = put_byte(buf, at, b'\t');
-    put_0x(buf, at, 1, target)
+    put_address(buf, at, form, target)
 }
 
 pub fn fmt_thumb_swi(buf: &mut [u8], at: usize, raw: u32) -> usize
@@ -225,12 +226,12 @@ pub fn fmt_thumb_swi(buf: &mut [u8], at: usize, raw: u32) -> usize
     put_0x(buf, at, 1, value)
 }
 
-pub fn fmt_thumb_branch(buf: &mut [u8], at: usize, pc: u32, raw: u32) -> usize
-    ensures { λ r. ⌜ Wrote (now (buf .entry)) at (fmtThumbBranch pc raw) (now (buf .exit)) r ⌝ }
+pub fn fmt_thumb_branch(buf: &mut [u8], at: usize, form: Form, pc: u32, raw: u32) -> usize
+    ensures { λ r. ⌜ Wrote (now (buf .entry)) at (fmtThumbBranch form pc raw) (now (buf .exit)) r ⌝ }
 {
     let target = branch_target(pc, raw);
     let at = put_text(buf, at, b"b\t");
-    put_0x(buf, at, 1, target)
+    put_address(buf, at, form, target)
 }
 
 pub fn fmt_thumb_branch_long_with_link(buf: &mut [u8], at: usize, raw: u32) -> usize

@@ -9,6 +9,8 @@ use mathlib.Core.Path.{_∙_, _≡_, refl}
 use native.Mathlib.Omega.{arith}
 use Rattle.thumb.specs.Kinds.{thumbNumber}
 use Rattle.arm7tdmi.specs.Names.{condNames, condText}
+use Rattle.lines.proofs.Address.{address-back, address-wordy}
+use Rattle.lines.specs.Address.{address}
 use Rattle.lines.specs.Pieces.{condAt}
 use Rattle.arm7tdmi.specs.Signed.{extended, moved}
 use Rattle.thumb.specs.Fields.{bcondTarget, branchTarget, callHalf}
@@ -18,12 +20,14 @@ use Rattle.thumb.specs.declared.ThumbFormat.{ThumbFormat}
 use Rattle.common.proofs.Tests.{by-test}
 use Rattle.common.specs.Lists.{first, same}
 use Rattle.reading.proofs.Pieces.{good, last, piece, spell, word-nth}
+use Rattle.text.proofs.Digits.{prefixed-back}
+use Rattle.text.proofs.Word.{prefixed-wordy}
 use Rattle.text.specs.Digits.{prefixed}
 use Rattle.text.specs.Text.{text}
 use Rattle.text.specs.Word.{isWord}
 use Rattle.thumb_disass.specs.Line.{fmtThumbBranch, fmtThumbBranchLongWithLink, fmtThumbBranchWithCond, lineOf}
 use Rattle.thumb_lowest.proofs.Found.{Law, Mnemonic, Words, exact, row-is, rows-are}
-use Rattle.thumb_lowest.proofs.Parts.{prefixed-back, prefixed-wordy, regroup}
+use Rattle.thumb_lowest.proofs.Parts.{regroup}
 use Rattle.thumb_candidate.specs.Candidate.{callUnit, offsetIn, operands, suits}
 use Rattle.thumb_mnemonic.specs.Rows.{rows}
 use Rattle.thumb_words.proofs.Laws.{conditions, parts, thumb-read, thumb-words}
@@ -45,15 +49,15 @@ eleven-back x h = by-test (ltb x (2 ^ 10)) (λ e. let l = ltb-true x (2 ^ 10) e 
 module _ (form : Form) (pc : ℕ) (k : ThumbFormat) (d : T (ltb (thumbNumber k) 19)) (xs : List ℕ) (f : Fits (parts form k) xs)
     (m : List ℕ) (b : ℕ) (row : Mnemonic k m b) where
   branch-found : (x y : ℕ) → y < 2 ^ 32 → ((t : List ℕ) → offsetIn pc t ≡ y / 2 → operands k b form pc t ≡ x) → b + x ≡ made (parts form k) xs →
-      lineOf form k pc (made (parts form k) xs) ≡ m ++ text "\t" ++ prefixed 1 (moved (moved pc 4) y) → ((t : List ℕ) → suits k t ≡ true) → Law form pc k d (made (parts form k) xs)
+      lineOf form k pc (made (parts form k) xs) ≡ m ++ text "\t" ++ address form (moved (moved pc 4) y) → ((t : List ℕ) → suits k t ≡ true) → Law form pc k d (made (parts form k) xs)
   unfolding offsetIn isWord
   branch-found x y h o s shown u =
       let a = moved (moved pc 4) y in
-      let ps = piece m (text "\t") (last (prefixed 1 a)) in
-      let g : good ps ≡ true = rw (row .one-word, prefixed-wordy 1 a (omega arith)) in
+      let ps = piece m (text "\t") (last (address form a)) in
+      let g : good ps ≡ true = rw (row .one-word, address-wordy form a) in
       exact form pc k d xs f ps b row g
-      (rw (o (spell ps) (rw (word-nth 1 ps g, prefixed-back 1 a (omega arith), distance-back (moved pc 4) y (omega arith) h))) s)
-      (shown ∙ regroup m (text "\t" ∷ prefixed 1 a ∷ [])) (u (spell ps))
+      (rw (o (spell ps) (rw (word-nth 1 ps g, address-back form a (omega arith), distance-back (moved pc 4) y (omega arith) h))) s)
+      (shown ∙ regroup m (text "\t" ∷ address form a ∷ [])) (u (spell ps))
 
 -- ---- "b{cond}\t{addr:#x}"
 conditional-row : (form : Form) (c : ℕ) → c < conditions form → Mnemonic H.BranchConditional (text "b" ++ condText c) (0xd000 + c * 2 ^ 8)

@@ -1,17 +1,11 @@
--- Texts regrouped, and what the words of a line name read back. Assumes nothing.
-use Prim.Native.Nat.{_<_, _^_, ℕ}
+-- Texts regrouped, and a mark read back. Assumes nothing.
+use Prim.Native.Nat.{_<_, ℕ}
 use borrow.Author.Tests.{eqb-false, eqb-true}
 use lib.Dec.{eqb}
-use lib.ListN.{drop}
-use mathlib.Core.Bool.{true}
 use mathlib.Core.List.{List, [], _++_, _∷_, append-assoc}
 use mathlib.Core.Path.{_∙_, _≡_, refl, sym}
 use native.Mathlib.Omega.{arith}
 use Rattle.common.proofs.Tests.{by-test}
-use Rattle.text.proofs.Digits.{hex-back}
-use Rattle.text.proofs.Word.{hex-wordy, wordy, wordy-all}
-use Rattle.text.specs.Digits.{hex, prefixed, value}
-use Rattle.text.specs.Word.{isWord}
 use Rattle.reading.specs.Parts.{flag}
 
 -- ---- a sum of texts, bracketed from the left as lines are written, or from the right as pieces are spelled
@@ -31,15 +25,6 @@ pub regroup : (a : List ℕ) (ts : List (List ℕ)) → left a ts ≡ right a ts
 regroup a [] = refl
 regroup a (b ∷ ts) = regroup (a ++ b) ts ∙ right-more a b ts
 
--- ---- a number in hexadecimal is a word, and is read back
-pub prefixed-wordy : (w n : ℕ) → 0 < w → wordy (prefixed w n) ≡ true
-unfolding prefixed isWord
-prefixed-wordy w n h = wordy-all (hex w n) (hex-wordy w n h)
-
-pub prefixed-back : (w n : ℕ) → n < 2 ^ 32 → value 16 (drop 2 (prefixed w n)) ≡ n
-unfolding prefixed
-prefixed-back w n h = hex-back w n h
-
--- a bit that a mark shows is read back
+-- ---- a bit that a mark shows is read back
 pub flag-back : (n : ℕ) → n < 2 → flag (eqb n 1) ≡ n
 flag-back n h = by-test (eqb n 1) (λ e. rw e (sym (eqb-true n 1 e))) (λ e. let z = eqb-false n 1 e in rw e (omega arith))

@@ -10,6 +10,8 @@ use native.Mathlib.Omega.{arith}
 use Rattle.arm7tdmi.proofs.Names.{reg-back, reg-wordy}
 use Rattle.thumb.specs.Kinds.{thumbNumber}
 use Rattle.arm7tdmi.specs.Names.{regNamed, regNames, regString}
+use Rattle.lines.proofs.Address.{address-wordy}
+use Rattle.lines.specs.Address.{address}
 use Rattle.lines.specs.Pieces.{either, regAt}
 use Rattle.thumb.specs.Fields.{opFormat3, pcLoadAddress, word8}
 use Rattle.arm7tdmi.specs.declared.Form.{Form}
@@ -17,13 +19,14 @@ use Rattle.thumb.specs.declared.ThumbFormat.{ThumbFormat}
 use Rattle.common.proofs.Tests.{at}
 use Rattle.common.specs.Lists.{first, same}
 use Rattle.reading.proofs.Pieces.{Pieces, firstOf, good, last, none, piece, spell, word-nth}
-use Rattle.text.proofs.Word.{gap, wordy}
+use Rattle.text.proofs.Word.{gap, prefixed-wordy, wordy}
+use Rattle.text.proofs.Digits.{prefixed-back}
 use Rattle.text.specs.Digits.{prefixed}
 use Rattle.text.specs.Text.{text}
 use Rattle.text.specs.Word.{fromWord, isWord, word}
 use Rattle.thumb_disass.specs.Line.{fmtThumbDataProcessImm, fmtThumbLdrPc, fmtThumbLdrStrSp, fmtThumbLoadAddress, fmtThumbSwi, op3Text, lineOf}
 use Rattle.thumb_lowest.proofs.Found.{Law, Mnemonic, Words, exact, pick, row-is, rows-are}
-use Rattle.thumb_lowest.proofs.Parts.{prefixed-back, prefixed-wordy, regroup}
+use Rattle.thumb_lowest.proofs.Parts.{regroup}
 use Rattle.thumb_candidate.specs.Candidate.{operands, wideIn, suits}
 use Rattle.thumb_mnemonic.specs.Rows.{rows}
 use Rattle.reading.specs.Parts.{flag}
@@ -81,8 +84,8 @@ ldrPc-law form pc = thumb-words form H.LdrPc tt (Law form pc H.LdrPc tt) (λ rd 
     let row = row-is H.LdrPc (text "ldr") 0x4800 refl in
     let a = pcLoadAddress pc (ldrPcWord rd imm) in
     wide-found form pc H.LdrPc tt xs f (text "ldr") 0x4800 row rd imm (omega arith) (omega arith) (text ", [") (text "pc") (text ", #") refl refl refl
-    (piece (prefixed 1 (imm * 4)) (text "] ; = #") (last (prefixed 1 a))) (rw (prefixed-wordy 1 (imm * 4) (omega arith), prefixed-wordy 1 a (omega arith))) refl 0 (λ t e. omega arith) (omega arith)
-    (rw (r 0, r 1) (regroup (text "ldr\t") (regString rd ∷ text ", [pc, #" ∷ prefixed 1 (imm * 4) ∷ text "] ; = #" ∷ prefixed 1 a ∷ []))) (λ t e. rw e))
+    (piece (prefixed 1 (imm * 4)) (text "] ; = #") (last (address form a))) (rw (prefixed-wordy 1 (imm * 4) (omega arith), address-wordy form a)) refl 0 (λ t e. omega arith) (omega arith)
+    (rw (r 0, r 1) (regroup (text "ldr\t") (regString rd ∷ text ", [pc, #" ∷ prefixed 1 (imm * 4) ∷ text "] ; = #" ∷ address form a ∷ []))) (λ t e. rw e))
 
 -- "{op}\t{Rd}, [sp, #{Imm:#x}]"
 pub ldrStrSp-law : (form : Form) (pc : ℕ) → Words form pc H.LdrStrSp tt

@@ -124,9 +124,9 @@ fn arm_sheet() -> u32
             0x100,
             0xe59f_0004,
             0,
-            b"ldr\tr0, [pc, #4]\t; 0x10c",
+            b"ldr\tr0, [pc, #4]\t; 0x0000010c",
         );
-    let n = n + arm(Form::Sheet, 0x100, 0xeaff_fffe, 0, b"b\t0x100");
+    let n = n + arm(Form::Sheet, 0x100, 0xeaff_fffe, 0, b"b\t0x00000100");
     let n = n + arm(Form::Sheet, 0, 0xf12f_ff10, 1, b"");
     let n = n + arm(Form::Sheet, 0, 0xe180_0090, 2, b"");
     n + arm(Form::Sheet, 0, 0xf180_0090, 1, b"")
@@ -168,12 +168,24 @@ fn read_sheet() -> u32
     n + arm_line(Form::Sheet, b"<Undefined>", 0, 0x0600_0010)
 }
 
-fn read_thumb_lines() -> u32
+// Thumb branches at address 100: the bench has as many digits as the number, the sheet eight.
+fn read_addresses() -> u32
     ensures { λ r. ⌜ r ≤ 8 ⌝ }
 {
     let n = thumb_line(Form::Bench, 0x100, b"b\t0x104", 0, 0xde00);
-    let n = n + thumb_line(Form::Sheet, 0x100, b"b\t0x104", 0, 0xe000);
-    let n = n + thumb_line(Form::Bench, 0, b"cmp\tr0, r0", 0, 0x4280);
+    let n = n + thumb_line(Form::Bench, 0x100, b"b\t0x00000104", 4, 0);
+    let n = n + thumb_line(Form::Sheet, 0x100, b"b\t0x104", 4, 0);
+    let n = n + thumb_line(Form::Sheet, 0x100, b"b\t0x0000104", 4, 0);
+    let n = n + thumb_line(Form::Sheet, 0x100, b"b\t0x00000104", 0, 0xe000);
+    let n = n + thumb_line(Form::Sheet, 0x100, b"b\t0x000000104", 4, 0);
+    let n = n + thumb_line(Form::Sheet, 0x100, b"b\t0x0000010C", 4, 0);
+    n + thumb_line(Form::Sheet, 0x100, b"b\t00000104", 4, 0)
+}
+
+fn read_thumb_lines() -> u32
+    ensures { λ r. ⌜ r ≤ 6 ⌝ }
+{
+    let n = thumb_line(Form::Bench, 0, b"cmp\tr0, r0", 0, 0x4280);
     let n = n + thumb_line(Form::Sheet, 0, b"cmp\tr0, r0", 0, 0x4280);
     let n = n + thumb_line(Form::Bench, 0, b"bl\t#0x00000000", 0, 0xf000);
     let n = n + thumb_line(Form::Sheet, 0, b"bl\t#0x00000000", 0, 0xf000);
@@ -188,8 +200,9 @@ fn main() {
         + thumb_both()
         + read_bench()
         + read_sheet()
+        + read_addresses()
         + read_thumb_lines();
     let at = put_dec(&mut out, 0, n);
-    let at = put_text(&mut out, at, b" of 45 answers differ\n");
+    let at = put_text(&mut out, at, b" of 51 answers differ\n");
     io::write_all(STDOUT_FILENO, part(&out, 0, at));
 }

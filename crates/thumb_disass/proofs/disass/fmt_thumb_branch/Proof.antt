@@ -10,7 +10,7 @@ unfolding fmtThumbBranch
 returns c =
     let c1 = c .before .before in
     let c0 = c1 .before .before .before .before in
-    rw (← c .before .before .before .before .before .before .before .before .before .branch-target .ensures) (c0 .put-text .ensures ⨾ c1 .put-0x .ensures)
+    rw (← c .before .before .before .before .before .before .before .before .before .branch-target .ensures) (c0 .put-text .ensures ⨾ c1 .put-address .ensures)
 
 pub fmt-thumb-branch-spec : {M : Type 1} → statement M
 fmt-thumb-branch-spec = tie.close (tie.spec (λ c κs. search needs) (λ c. search needs) (λ c κs. search needs) (λ c κs. search needs) (λ c. kept (returns c)) returns)

@@ -1,0 +1,13 @@
+-- `lines::put_address` meets its contract: what it writes is what its calls write, one after the other. Assumes nothing.
+use borrow.Author.Needs.{needs}
+use Rattle.lines.specs.Address.{address}
+use Rattle.text.proofs.Wrote.{kept}
+use Rattle.lines.proofs.put_address.Statement.{statement}
+use Rattle.lines.proofs.put_address.Tie as tie
+
+returns : tie.Need-returns
+unfolding address
+returns c = rw (← c .before .before .before .address-width .ensures) (c .before .before .put-0x .ensures)
+
+pub put-address-spec : {M : Type 1} → statement M
+put-address-spec = tie.close (tie.spec (λ c κs. search needs) (λ c κs. search needs) (λ c. kept (returns c)) returns)
