@@ -10,13 +10,12 @@ use Rattle.arm7tdmi.proofs.Names.{reg-back, reg-letter, reg-wordy}
 use Rattle.arm.specs.Fields.{addedOf, pcRelative, signedOffset}
 use Rattle.arm7tdmi.specs.Names.{regString}
 use Rattle.lines.proofs.Address.{address-wordy}
-use Rattle.lines.specs.Address.{address}
 use Rattle.lines.specs.Pieces.{ifSet, regAt}
 use Rattle.arm7tdmi.specs.declared.Form.the-variants.{Bench, Sheet}
 use Rattle.arm7tdmi.specs.declared.Form.{Form}
 use Rattle.arm7tdmi.specs.declared.alu.BarrelShifterValue.{BarrelShifterValue}
 use Rattle.arm7tdmi.specs.declared.alu.ShiftedRegister.{ShiftedRegister}
-use Rattle.arm_operand.specs.Operand.{benchOffset, comment, fmtRnOffset, immediateOffset, indexed, magnitude, offsetText, sheetOffset, shiftedRegister, signText, signedRegister, valueComment}
+use Rattle.arm_operand.specs.Operand.{benchOffset, comment, commented, fmtRnOffset, immediateOffset, indexed, magnitude, offsetText, sheetOffset, shiftedRegister, signText, signedRegister, valueComment}
 use Rattle.arm_lowest.proofs.Heads.{pick}
 use Rattle.arm_lowest.proofs.Operand.{shift-first, shift-good, shiftPieces, shifted-back}
 use Rattle.arm_candidate.specs.CandidateOperand.{isNumber, shiftedOf}
@@ -30,7 +29,7 @@ use Rattle.common.specs.Bits.{bit, bitRange}
 use Rattle.reading.proofs.Pieces.{Pieces, ended, ended-first, ended-gaps, ended-good, ended-spelled, first-word, firstOf, from-nth, gapsHave, good, has-append, has-gaps, last, piece, rest-nth, some, spell, word-nth}
 use Rattle.text.proofs.Digits.{dec-back}
 use Rattle.text.proofs.Word.{dec-first, dec-wordy, gap, prefixed-wordy, wordy}
-use Rattle.text.specs.Digits.{dec, prefixed, value}
+use Rattle.text.specs.Digits.{dec, value}
 use Rattle.text.specs.Text.{text}
 use Rattle.text.specs.Word.{all, fromWord, has, isGap, isWord, word}
 use Rattle.arm7tdmi.specs.declared.alu.BarrelShifterValue.the-variants as Value
@@ -66,12 +65,9 @@ minus form u = not (bench form || eqb u 1)
 abbrev size : Form → ℕ → ℕ → ℕ
 size form u n = cond (bench form) (signed u n) n
 
--- what the comment shows of it: with pc as base an address
-abbrev shownValue : Form → ℕ → ℕ → ℕ → List ℕ
-shownValue form pc rn v = cond (eqb rn 15) (address form (pcRelative pc v)) (prefixed 1 v)
-
-shown-wordy : (form : Form) (pc rn v : ℕ) → wordy (shownValue form pc rn v) ≡ true
-shown-wordy form pc rn v = by-test (eqb rn 15) (λ e. rw (e, address-wordy form (pcRelative pc v))) (λ e. rw (e, prefixed-wordy 1 v (omega arith)))
+-- what the comment shows of it is one word
+commented-wordy : (form : Form) (pc rn v : ℕ) → wordy (commented form pc rn v) ≡ true
+commented-wordy form pc rn v = by-test (eqb rn 15) (λ e. rw (e, address-wordy form (pcRelative pc v))) (λ e. rw (e, prefixed-wordy 1 v (omega arith)))
 
 -- an offset by a number (true) or by a register (false): whether it has `-`, what stands before its first word, and its pieces to the line's end
 abbrev pub negative : Form → Bool → ℕ → Bool
@@ -83,7 +79,7 @@ offsetLead form true u = text "#" ++ cond (minus form u) (text "-") []
 offsetLead form false u = cond (not (eqb u 1)) (text "-") []
 
 abbrev pub offset : Form → ℕ → Bool → ℕ → ℕ → ℕ → ℕ → ℕ → Pieces
-offset form pc true p u w rn n = piece (dec (size form u n)) (close p w ++ text "\t; ") (last (shownValue form pc rn (signed u n)))
+offset form pc true p u w rn n = piece (dec (size form u n)) (close p w ++ text "\t; ") (last (commented form pc rn (signed u n)))
 offset form pc false p u w rn n = cond (eqb p 1) (ended (shiftPieces n) (close p w)) (shiftPieces n)
 
 -- the line of a transfer: the mnemonic, Rd, Rn, the offset's lead and its pieces
@@ -179,7 +175,7 @@ number-seen : (form : Form) (pc p u w rn n : ℕ) → Seen (negative form true u
 unfolding isWord has
 number-seen form pc p u w rn n =
     let a = dec-wordy (size form u n) in
-    let b = shown-wordy form pc rn (signed u n) in
+    let b = commented-wordy form pc rn (signed u n) in
     record {
       before = by-test (minus form u) (λ e. rw e) (λ e. rw e);
       whole = by-test (eqb p 1) (λ e. by-test (eqb w 1) (λ f. rw (a, b, e, f)) (λ f. rw (a, b, e, f))) (λ e. rw (a, b, e));

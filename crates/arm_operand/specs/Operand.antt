@@ -100,9 +100,12 @@ unfoldable pub indexed : Form → ℕ → BarrelShifterValue → List ℕ
 indexed form raw o =
     cond (bit raw 24) (text ", " ++ offsetText form raw o ++ text "]" ++ ifSet raw 21 (text "!")) (text "], " ++ offsetText form raw o)
 
--- "The comment adds address + 8 when Rn is pc": it is an address then, "the comment of an ARM transfer where Rn is pc"
+-- "The comment adds address + 8 when Rn is pc": it shows an address then, and else the offset
+abbrev pub commented : Form → ℕ → ℕ → ℕ → List ℕ
+commented form pc rn v = cond (eqb rn 15) (address form (pcRelative pc v)) (prefixed 1 v)
+
 unfoldable pub valueComment : Form → ℕ → ℕ → ℕ → List ℕ
-valueComment form pc raw v = text "\t; " ++ cond (eqb (bitRange raw 16 20) 15) (address form (pcRelative pc v)) (prefixed 1 v)
+valueComment form pc raw v = text "\t; " ++ commented form pc (bitRange raw 16 20) v
 
 unfoldable pub comment : Form → ℕ → ℕ → BarrelShifterValue → List ℕ
 comment form pc raw (Value.ImmediateValue v) = valueComment form pc raw v

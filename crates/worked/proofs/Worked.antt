@@ -36,20 +36,20 @@ use Rattle.thumb_mnemonic.specs.Rows.{rows}
 use Rattle.reading.proofs.Several.{best}
 use Rattle.reading.specs.Read.{isLine}
 use Rattle.text.specs.Word as Words
-use Rattle.worked.specs.Worked.{Input, Output, Row, arm, gives, givenRow, read, readAt, table, thumb, word}
+use Rattle.worked.specs.Worked.{Input, Output, Row, arm, armRead, gives, givenRow, table, thumb, thumbRead, word}
 
 -- what they give, with the reader's law in place of the lowest word
 abbrev byLaw : Form → Input → Output
 byLaw form (arm w address) = gives form (arm w address)
 byLaw form (thumb w address) = gives form (thumb w address)
-byLaw form (read l) = word (cond (isLine (APrint.armLine form 0 (candidate form 0 l)) l) (candidate form 0 l) (2 ^ 32))
-byLaw form (readAt l address) = word (best (λ w. isLine (TPrint.thumbLine form address w) l) (2 ^ 16) (TCandidate.candidates form address l))
+byLaw form (armRead l) = word (cond (isLine (APrint.armLine form 0 (candidate form 0 l)) l) (candidate form 0 l) (2 ^ 32))
+byLaw form (thumbRead l address) = word (best (λ w. isLine (TPrint.thumbLine form address w) l) (2 ^ 16) (TCandidate.candidates form address l))
 
 law : (form : Form) (i : Input) → gives form i ≡ byLaw form i
 law form (arm w address) = refl
 law form (thumb w address) = refl
-law form (read l) = rw (read-arm form 0 (omega arith) l)
-law form (readAt l address) = rw (read-thumb form address l)
+law form (armRead l) = rw (read-arm form 0 (omega arith) l)
+law form (thumbRead l address) = rw (read-thumb form address l)
 
 rows-law : (l : List Row) → map (givenRow gives) l ≡ map (givenRow byLaw) l
 rows-law [] = refl

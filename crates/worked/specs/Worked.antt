@@ -11,12 +11,12 @@ use Rattle.arm_lowest.specs.Read.{readArm}
 use Rattle.thumb_print.specs.Print.{thumbLine}
 use Rattle.thumb_lowest.specs.Read.{readThumb}
 
--- "A row ending in "read" gives a line to be read, any other a word to be printed": a word or a Thumb line and its address, or an ARM line
+-- "A row ending in "read" gives a line to be read, any other a word to be printed": a word and its address, an ARM line at address 0, or a Thumb line and its address
 pub data Input : Type 0 where
   arm : ℕ → ℕ → Input
   thumb : ℕ → ℕ → Input
-  read : List ℕ → Input
-  readAt : List ℕ → ℕ → Input
+  armRead : List ℕ → Input
+  thumbRead : List ℕ → ℕ → Input
 
 pub data Output : Type 0 where
   printed : Answer → Output
@@ -33,17 +33,17 @@ pub record Row : Type 0 where
 abbrev pub gives : Form → Input → Output
 gives form (arm w address) = printed (armLine form address w)
 gives form (thumb w address) = printed (thumbLine form address w)
-gives form (read l) = word (readArm form 0 l)
-gives form (readAt l address) = word (readThumb form address l)
+gives form (armRead l) = word (readArm form 0 l)
+gives form (thumbRead l address) = word (readThumb form address l)
 
 -- the row of what they give in both forms
 abbrev pub givenRow : (Form → Input → Output) → Row → Row
 givenRow f r = record { benchInput = r .benchInput; bench = f Bench (r .benchInput); sheetInput = r .sheetInput; sheet = f Sheet (r .sheetInput) }
 
+-- a row of two inputs, one for each form; and one of the same input for both
 abbrev apart : Input → Output → Input → Output → Row
 apart i b j s = record { benchInput = i; bench = b; sheetInput = j; sheet = s }
 
--- the same given in both forms
 abbrev row : Input → Output → Output → Row
 row i b s = apart i b i s
 
@@ -67,7 +67,7 @@ table =
     ∷ row (thumb 0x4480 0) (shows "add\tr0, r0") (shows "add\tr8, r0")
     ∷ row (thumb 0xC808 0) (shows "ldm\tr1!, {r3}") (shows "ldm\tr0!, {r3}")
     ∷ row (thumb 0xB0FF 0) (shows "add\tsp, #fffffe04") (shows "add\tsp, #-0x1fc")
-    ∷ row (read (text "tst\tpc, r0")) (word 0xE11F0000) (word 0xE11F0000)
-    ∷ row (read (text "<Undefined>")) (word 0x06000000) (word 0x06000010)
-    ∷ apart (readAt (text "b\t0x104") 0x100) (word 0xDE00) (readAt (text "b\t0x00000104") 0x100) (word 0xE000)
+    ∷ row (armRead (text "tst\tpc, r0")) (word 0xE11F0000) (word 0xE11F0000)
+    ∷ row (armRead (text "<Undefined>")) (word 0x06000000) (word 0x06000010)
+    ∷ apart (thumbRead (text "b\t0x104") 0x100) (word 0xDE00) (thumbRead (text "b\t0x00000104") 0x100) (word 0xE000)
     ∷ []
