@@ -6,22 +6,23 @@ use mathlib.Core.Path.{_≡_}
 use native.Mathlib.Omega.{arith}
 use Rattle.arm7tdmi.specs.declared.Form.{Form}
 use Rattle.arm7tdmi.specs.declared.Form.the-variants.{Bench, Sheet}
-use Rattle.lines.specs.Address.{address, addressWidth}
+use Rattle.lines.specs.Address.{address}
 use Rattle.text.proofs.Digits.{prefixed-back}
 use Rattle.text.proofs.Within.{Within, loosely, prefixed-within}
 use Rattle.text.proofs.Word.{prefixed-wordy, wordy}
 use Rattle.text.specs.Digits.{value}
 
 pub address-within : (form : Form) (n : ℕ) → Within 3 10 (address form n)
-unfolding address addressWidth
+unfolding address
 address-within Bench n = prefixed-within 1 n (omega arith)
 address-within Sheet n = loosely (prefixed-within 8 n (omega arith)) (omega arith) (omega arith)
 
 pub address-wordy : (form : Form) (n : ℕ) → wordy (address form n) ≡ true
-unfolding address addressWidth
+unfolding address
 address-wordy Bench n = prefixed-wordy 1 n (omega arith)
 address-wordy Sheet n = prefixed-wordy 8 n (omega arith)
 
 pub address-back : (form : Form) (n : ℕ) → n < 2 ^ 32 → value 16 (drop 2 (address form n)) ≡ n
 unfolding address
-address-back form n h = prefixed-back (addressWidth form) n h
+address-back Bench n h = prefixed-back 1 n h
+address-back Sheet n h = prefixed-back 8 n h

@@ -5,11 +5,8 @@ use Rattle.text.specs.Digits.{prefixed}
 use Rattle.arm7tdmi.specs.declared.Form.{Form}
 use Rattle.arm7tdmi.specs.declared.Form.the-variants.{Bench, Sheet}
 
--- the least number of its digits
--- bench: as many as the number has, by the Rust's "{:#x}". S9, of document 02: "In sheet lines every address becomes 0x and eight digits, zero filled"
-unfoldable pub addressWidth : Form → ℕ
-addressWidth Bench = 1
-addressWidth Sheet = 8
-
+-- bench: as many digits as the number has, by the Rust's "{:#x}".
+-- S9, of document 02: "In sheet lines every address becomes 0x and eight digits, zero filled"
 unfoldable pub address : Form → ℕ → List ℕ
-address form n = prefixed (addressWidth form) n
+address Bench n = prefixed 1 n
+address Sheet n = prefixed 8 n

@@ -5,7 +5,7 @@ ghost use mathlib.Core.Path.{_≡_};
 ghost use Prim.Native.Nat.{_%_, _^_, _≤_};
 ghost use Rattle.text.specs.Text.{text};
 ghost use Rattle.text.specs.Wrote.{Wrote, WroteBoth};
-ghost use Rattle.lines.specs.Address.{address, addressWidth};
+ghost use Rattle.lines.specs.Address.{address};
 ghost use Rattle.lines.specs.Answer.{line, printed};
 ghost use Rattle.lines.specs.Pieces.{regAt, condAt, either, ifSet, listed, registers};
 use arm7tdmi::Form;
@@ -118,21 +118,14 @@ pub fn put_registers(buf: &mut [u8], at: usize, raw: u32, n: u32) -> usize
     o
 }
 
-// The least number of an address's digits. S9: eight on the sheet.
-fn address_width(form: Form) -> u32
-    ensures { λ r. ⌜ r ≡ addressWidth form ⌝ }
-{
-    match form {
-        Form::Bench => 1,
-        Form::Sheet => 8,
-    }
-}
-
-// An address.
+// An address. S9: the sheet has eight digits, the bench as many as the number has.
 pub fn put_address(buf: &mut [u8], at: usize, form: Form, n: u32) -> usize
     ensures { λ r. ⌜ Wrote (now (buf .entry)) at (address form n) (now (buf .exit)) r ⌝ }
 {
-    put_0x(buf, at, address_width(form), n)
+    match form {
+        Form::Bench => put_0x(buf, at, 1, n),
+        Form::Sheet => put_0x(buf, at, 8, n),
+    }
 }
 
 // What a print answers: a refusal's number with length 0, or 0 with the line's length.

@@ -9,7 +9,7 @@ use Rattle.arm.specs.Fields as Arm
 use Rattle.arm.specs.Kinds.{armRows}
 use Rattle.thumb.specs.Kinds.{thumbRows}
 use Rattle.arm7tdmi.specs.Names.{condNamed, condNames, condText, regNamed, regNames, regString}
-use Rattle.lines.specs.Address.{address, addressWidth}
+use Rattle.lines.specs.Address.{address}
 use Rattle.lines.specs.Pieces.{regAt, condAt, either, ifSet, setBits, registers, listed}
 use Rattle.arm7tdmi.specs.Signed.{extended}
 use Rattle.thumb.specs.Fields as Thumb
@@ -56,7 +56,7 @@ rows-law [] = refl
 rows-law (r ∷ l) = rw (law Bench (r .benchInput), law Sheet (r .sheetInput), rows-law l)
 
 computed : map (givenRow byLaw) table ≡ table
-unfolding aluOpCode barrelShiftOpCode armCond Arm.halfwordType Arm.branchOffset Arm.branchTarget Arm.bsOp Arm.shiftRegBy Arm.operand2 Arm.addedOf Arm.signedOffset Arm.ldrStrOffset armRows thumbRows regNames regString condNames condText regAt condAt either ifSet setBits registers listed extended Thumb.opFormat5 Thumb.sword7 ALine.opText AOperand.byAmount AOperand.shiftBy AOperand.shiftedRegister ALine.bxCond ALine.fmtBx ALine.fmtBranch AOperand.fmtOperand2 AOperand.rdText ALine.fmtThree ALine.fmtOpcode ALine.fmtDataProcessing AOperand.benchOffset AOperand.magnitude AOperand.sheetOffset AOperand.immediateOffset AOperand.signText AOperand.signedRegister AOperand.offsetText AOperand.indexed AOperand.valueComment AOperand.comment AOperand.fmtRnOffset ALine.userMark ALine.fmtLdrStr ALine.lineOf APrint.answerOf APrint.armLine first digits hex prefixed dec TLine.op5Text TOperand.highDst TOperand.dstReg TOperand.srcReg TOperand.dstAndSrc TOperand.highOperands TLine.fmtThumbHighRegOpOrBx TOperand.spSize TOperand.spBits TOperand.sheetSpOffset TOperand.spOffset TLine.fmtThumbAddSp TOperand.baseText TLine.fmtThumbLdmStm TLine.lineOf TPrint.thumbLine candidate dpCand dpFrom undefinedCand condOf headOf stemNames stemOf stems same regNamed condNamed digitValue valueFrom Words.isWord Words.word Words.behind Words.after Words.has ALine.fmtTest AOperand.immediate AOperand.decodedText immediateOf operandOf rotationOf shiftNamed shiftNames shiftedOf Arm.pcRelative address addressWidth Thumb.bcondTarget Thumb.branchTarget TLine.fmtThumbBranchWithCond TLine.fmtThumbBranch TCandidate.candidates TCandidate.candidate TCandidate.operands TCandidate.offsetIn TCandidate.suits rows best
+unfolding aluOpCode barrelShiftOpCode armCond Arm.halfwordType Arm.branchOffset Arm.branchTarget Arm.bsOp Arm.shiftRegBy Arm.operand2 Arm.addedOf Arm.signedOffset Arm.ldrStrOffset armRows thumbRows regNames regString condNames condText regAt condAt either ifSet setBits registers listed extended Thumb.opFormat5 Thumb.sword7 ALine.opText AOperand.byAmount AOperand.shiftBy AOperand.shiftedRegister ALine.bxCond ALine.fmtBx ALine.fmtBranch AOperand.fmtOperand2 AOperand.rdText ALine.fmtThree ALine.fmtOpcode ALine.fmtDataProcessing AOperand.benchOffset AOperand.magnitude AOperand.sheetOffset AOperand.immediateOffset AOperand.signText AOperand.signedRegister AOperand.offsetText AOperand.indexed AOperand.valueComment AOperand.comment AOperand.fmtRnOffset ALine.userMark ALine.fmtLdrStr ALine.lineOf APrint.answerOf APrint.armLine first digits hex prefixed dec TLine.op5Text TOperand.highDst TOperand.dstReg TOperand.srcReg TOperand.dstAndSrc TOperand.highOperands TLine.fmtThumbHighRegOpOrBx TOperand.spSize TOperand.spBits TOperand.sheetSpOffset TOperand.spOffset TLine.fmtThumbAddSp TOperand.baseText TLine.fmtThumbLdmStm TLine.lineOf TPrint.thumbLine candidate dpCand dpFrom undefinedCand condOf headOf stemNames stemOf stems same regNamed condNamed digitValue valueFrom Words.isWord Words.word Words.behind Words.after Words.has ALine.fmtTest AOperand.immediate AOperand.decodedText immediateOf operandOf rotationOf shiftNamed shiftNames shiftedOf Arm.pcRelative address Thumb.bcondTarget Thumb.branchTarget TLine.fmtThumbBranchWithCond TLine.fmtThumbBranch TCandidate.candidates TCandidate.candidate TCandidate.operands TCandidate.offsetIn TCandidate.suits rows best
 computed = refl
 
 pub worked : map (givenRow gives) table ≡ table

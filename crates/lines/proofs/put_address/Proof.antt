@@ -7,7 +7,11 @@ use Rattle.lines.proofs.put_address.Tie as tie
 
 returns : tie.Need-returns
 unfolding address
-returns c = rw (← c .before .before .before .address-width .ensures) (c .before .before .put-0x .ensures)
+returns c = rw (c .before .before .before .before .enum-told .given .1) (c .before .before .put-0x .ensures)
+
+returns-2 : tie.Need-returns-2
+unfolding address
+returns-2 c = rw (c .before .before .before .before .enum-told2 .given .1) (c .before .before .put-0x2 .ensures)
 
 pub put-address-spec : {M : Type 1} → statement M
-put-address-spec = tie.close (tie.spec (λ c κs. search needs) (λ c κs. search needs) (λ c. kept (returns c)) returns)
+put-address-spec = tie.close (tie.spec (λ c. search needs) (λ c κs. search needs) (λ c. search needs) (λ c κs. search needs) (λ c. kept (returns c)) returns (λ c. kept (returns-2 c)) returns-2)
