@@ -14,6 +14,7 @@ use arm7tdmi::bit::bit_range;
 use arm7tdmi::cond::put_cond;
 use arm7tdmi::put_reg;
 use text::put::put_0x;
+use text::put::put_eight;
 use text::put::put_if;
 use text::put::put_text;
 
@@ -124,7 +125,10 @@ pub fn put_address(buf: &mut [u8], at: usize, form: Form, n: u32) -> usize
 {
     match form {
         Form::Bench => put_0x(buf, at, 1, n),
-        Form::Sheet => put_0x(buf, at, 8, n),
+        Form::Sheet => {
+            let at = put_text(buf, at, b"0x");
+            put_eight(buf, at, n)
+        }
     }
 }
 

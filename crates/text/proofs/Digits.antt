@@ -1,6 +1,6 @@
 -- Laws of digits: what the code tests, that the text of a number is its number, and how many digits there are. Assumes nothing.
 use mathlib.Core.Path.{_≡_, refl, sym}
-use mathlib.Core.Bool.{cond}
+use mathlib.Core.Bool.{cond, false}
 use mathlib.Core.List.{List, [], _∷_, _++_, append-assoc}
 use Prim.Native.Nat.{ℕ, zero, suc, _+_, _-_, _*_, _/_, _%_, _^_, _≤_, _<_, max}
 use native.Mathlib.Nat.{div-add-mod', div-lt-iff-lt-mul, mod-lt, mod-eq-of-lt, pow-suc, pow-zero, mul-le-mul-left, div-le-self, lt-of-le-of-lt}
@@ -123,6 +123,38 @@ prefixed-back w n h = hex-back w n h
 pub dec-back : (n : ℕ) → n < 2 ^ 32 → value 10 (dec n) ≡ n
 unfolding dec
 dec-back n h = value-digits 10 (omega arith) (omega arith) 10 1 n (omega arith) h
+
+-- ---- all eight digits of a number, one by one
+-- a digit that is asked for is there
+asked : (n w : ℕ) → 0 < w → eqb (n + w) 0 ≡ false
+asked n w h = ne-eqb (n + w) 0 (omega arith)
+
+pub hex-eight : (n : ℕ) → digit (n / 0x10000000 % 16) ∷ digit (n / 0x1000000 % 16) ∷ digit (n / 0x100000 % 16) ∷ digit (n / 0x10000 % 16)
+    ∷ digit (n / 0x1000 % 16) ∷ digit (n / 0x100 % 16) ∷ digit (n / 0x10 % 16) ∷ digit (n % 16) ∷ [] ≡ hex 8 n
+unfolding hex digits
+hex-eight n =
+    let b : n / 16 / 16 ≡ n / 0x100 = omega arith in
+    let c : n / 0x100 / 16 ≡ n / 0x1000 = omega arith in
+    let d : n / 0x1000 / 16 ≡ n / 0x10000 = omega arith in
+    let e : n / 0x10000 / 16 ≡ n / 0x100000 = omega arith in
+    let f : n / 0x100000 / 16 ≡ n / 0x1000000 = omega arith in
+    let g : n / 0x1000000 / 16 ≡ n / 0x10000000 = omega arith in
+    rw (
+      asked n 8 (omega arith),
+      asked (n / 16) 7 (omega arith),
+      b,
+      asked (n / 0x100) 6 (omega arith),
+      c,
+      asked (n / 0x1000) 5 (omega arith),
+      d,
+      asked (n / 0x10000) 4 (omega arith),
+      e,
+      asked (n / 0x100000) 3 (omega arith),
+      f,
+      asked (n / 0x1000000) 2 (omega arith),
+      g,
+      asked (n / 0x10000000) 1 (omega arith),
+    )
 
 -- ---- the steps of the code's loop
 module _ (b v : ℕ) (s : List ℕ) (i : ℕ) where

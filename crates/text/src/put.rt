@@ -130,6 +130,20 @@ fn put_digits(buf: &mut [u8], at: usize, is_hex: bool, k: usize, w: u32, n: u32)
     put_text(buf, at, &scratch[i..k])
 }
 
+// All eight digits of a number in hexadecimal, from the first to the last: no scratch is needed.
+pub fn put_eight(buf: &mut [u8], at: usize, n: u32) -> usize
+    ensures { λ r. ⌜ Wrote (now (buf .entry)) at (hex 8 n) (now (buf .exit)) r ⌝ }
+{
+    let at = put_byte(buf, at, last_digit(true, n / 0x1000_0000));
+    let at = put_byte(buf, at, last_digit(true, n / 0x100_0000));
+    let at = put_byte(buf, at, last_digit(true, n / 0x10_0000));
+    let at = put_byte(buf, at, last_digit(true, n / 0x1_0000));
+    let at = put_byte(buf, at, last_digit(true, n / 0x1000));
+    let at = put_byte(buf, at, last_digit(true, n / 0x100));
+    let at = put_byte(buf, at, last_digit(true, n / 0x10));
+    put_byte(buf, at, last_digit(true, n))
+}
+
 // A number in lowercase hexadecimal, at least w digits.
 pub fn put_hex(buf: &mut [u8], at: usize, w: u32, n: u32) -> usize
     ensures { λ r. ⌜ Wrote (now (buf .entry)) at (hex w n) (now (buf .exit)) r ⌝ }
