@@ -12,7 +12,6 @@ use Rattle.arm7tdmi.specs.declared.Form.{Form}
 use Rattle.arm_disass.specs.Line.{fmtLdmStm, lineOf}
 use Rattle.arm_lowest.proofs.Found.{Law, exact, fifteen, pieces-read, printed-line}
 use Rattle.arm_lowest.proofs.Heads.{Mnemonic, ldm-reads, ldmBits, ldmStem, pick}
-use Rattle.arm_lowest.proofs.Parts.{flag-back}
 use Rattle.reading.proofs.RegisterList.{behindWord, bits-below, bits-few, bits-sum, list-back, list-first, list-good, list-has, list-spelled}
 use Rattle.arm_candidate.specs.CandidateTransfer.{ldmCand}
 use Rattle.reading.specs.Parts.{listIn}
@@ -20,7 +19,7 @@ use Rattle.arm_words.proofs.Scheme.{Words}
 use Rattle.arm_words.proofs.Transfer.{LdmFields, ldm-read, ldm-words, ldmWord}
 use Rattle.common.proofs.Tests.{by-test}
 use Rattle.common.specs.Bits.{bitRange}
-use Rattle.reading.proofs.Pieces.{Pieces, from-nth, good, has-gaps, piece, spell, word-nth}
+use Rattle.reading.proofs.Pieces.{Pieces, flag-back, from-nth, good, has-gaps, piece, spell, word-nth}
 use Rattle.text.proofs.Word.{gap}
 use Rattle.text.specs.Text.{text}
 use Rattle.text.specs.Word.{fromWord, has, isWord, word}

@@ -19,13 +19,12 @@ use Rattle.arm_disass.specs.Line.{bxCond, fmtBranch, fmtBx, fmtSwi, lineOf}
 use Rattle.arm_print.specs.Print.{printsCond}
 use Rattle.arm_lowest.proofs.Found.{HasLine, Law, exact, fifteen, least-found, pieces-read, printed-line}
 use Rattle.arm_lowest.proofs.Heads.{Mnemonic, branch-reads, branchStem, bx-reads, swi-reads}
-use Rattle.arm_lowest.proofs.Parts.{regroup}
 use Rattle.arm_candidate.specs.CandidateSimple.{branchCand, bxCand, condShown, fieldOf, swiCand}
 use Rattle.arm_words.proofs.Branch.{BranchFields, BxFields, SwiFields, branch-read, branch-words, branchWord, bx-least, bx-read, bx-words, bxWord, swi-read, swi-words, swiWord}
 use Rattle.arm_words.proofs.Scheme.{Words, bench, shown}
 use Rattle.common.proofs.Tests.{by-test}
 use Rattle.common.specs.Bits.{bitRange}
-use Rattle.reading.proofs.Pieces.{Pieces, good, last, piece, spell, word-nth}
+use Rattle.reading.proofs.Pieces.{Pieces, good, last, piece, regroup, spell, word-nth}
 use Rattle.text.proofs.Digits.{prefixed-back}
 use Rattle.text.proofs.Word.{prefixed-wordy}
 use Rattle.text.specs.Digits.{prefixed}

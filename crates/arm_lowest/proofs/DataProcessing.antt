@@ -17,14 +17,13 @@ use Rattle.arm_operand.specs.Operand.{rdText}
 use Rattle.arm_lowest.proofs.Found.{Law, fifteen, least-found, pieces-read, printed-line}
 use Rattle.arm_lowest.proofs.Heads.{Mnemonic, dp-reads, dpBits, dpStem, pick}
 use Rattle.arm_lowest.proofs.Operand.{lead, op-back, op-good, op-least, op-spelled, opLeast, opPieces}
-use Rattle.arm_lowest.proofs.Parts.{regroup}
 use Rattle.arm_candidate.specs.CandidateDataProcessing.{dpCand, dpFrom, isMrs, isThree, operandIn, rdIn, rnIn, showsRd}
 use Rattle.arm_candidate.specs.CandidateOperand.{operandOf}
 use Rattle.reading.specs.Parts.{regIn}
 use Rattle.arm_words.proofs.DataProcessing.{DpFields, dp-least, dp-read, dp-test, dp-words, dpMove, dpRd, dpRn, dpS, dpTest, dpWord, mrsShape, same-test}
 use Rattle.arm_words.proofs.Scheme.{Words, bench, shown-low}
 use Rattle.common.proofs.Tests.{and-left, at, by-test}
-use Rattle.reading.proofs.Pieces.{Pieces, from-nth, good, piece, spell, word-nth}
+use Rattle.reading.proofs.Pieces.{Pieces, from-nth, good, piece, regroup, spell, word-nth}
 use Rattle.text.proofs.Word.{gap}
 use Rattle.text.specs.Text.{text}
 use Rattle.text.specs.Word.{fromWord, isWord}

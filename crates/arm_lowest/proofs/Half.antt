@@ -20,14 +20,13 @@ use Rattle.arm_lowest.proofs.Found.{Law, fifteen, least-found, pieces-r
 use Rattle.arm_lowest.proofs.Heads.{half-reads, halfBits, halfStem}
 use Rattle.arm_lowest.proofs.Offset.{number-added, number-same, number-says, number-size, number-spelled, offset, offset-seen, offsetLead, register-added, register-named, register-says, register-spelled, sep, transfer-base, transfer-good, transferPieces}
 use Rattle.arm_lowest.proofs.Operand.{shift-alone, shiftPieces}
-use Rattle.arm_lowest.proofs.Parts.{flag-back}
 use Rattle.reading.specs.Parts.{flag}
 use Rattle.arm_candidate.specs.CandidateTransfer.{asFlags, baseIn, halfCand, halfOffset}
 use Rattle.arm_words.proofs.Halfword.{HalfFields, flagsShape, half-least, half-read, half-words, halfKind, halfU, halfW, halfWord}
 use Rattle.arm_words.proofs.Scheme.{Words, shown-low}
 use Rattle.common.proofs.Tests.{by-test}
 use Rattle.common.specs.Bits.{bitRange}
-use Rattle.reading.proofs.Pieces.{Pieces, spell}
+use Rattle.reading.proofs.Pieces.{Pieces, flag-back, spell}
 use Rattle.text.proofs.Word.{wordy}
 use Rattle.text.specs.Text.{text}
 use Rattle.arm7tdmi.specs.declared.alu.BarrelShiftOpCode.the-variants as Shift

@@ -1,6 +1,5 @@
 pub mod Heads
 pub mod Found
-pub mod Parts
 pub mod Rotation
 pub mod Operand
 pub mod Branch

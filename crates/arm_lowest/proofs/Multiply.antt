@@ -13,13 +13,12 @@ use Rattle.arm_operand.specs.Operand.{addedRegister}
 use Rattle.arm_disass.specs.Line.{fmtMulMla, fmtMullMlal, fmtSwp, lineOf}
 use Rattle.arm_lowest.proofs.Found.{Law, exact, fifteen, least-found, pieces-read, printed-line}
 use Rattle.arm_lowest.proofs.Heads.{Mnemonic, mul-reads, mulBits, mulStem, mull-reads, mullBits, mullStem, pick, swp-reads, swpStem}
-use Rattle.arm_lowest.proofs.Parts.{regroup}
 use Rattle.arm_candidate.specs.CandidateSimple.{mulCand, mullCand, swpCand}
 use Rattle.arm_words.proofs.Multiply.{MulFields, MullFields, SwpFields, mul-least, mul-read, mul-words, mulWord, mull-read, mull-words, mullWord, swp-read, swp-words, swpWord}
 use Rattle.arm_words.proofs.Scheme.{Words, shown}
 use Rattle.common.proofs.Tests.{by-test}
 use Rattle.common.specs.Bits.{bit, bitRange}
-use Rattle.reading.proofs.Pieces.{Pieces, good, last, none, piece, spell, word-nth}
+use Rattle.reading.proofs.Pieces.{Pieces, good, last, none, piece, regroup, spell, word-nth}
 use Rattle.text.specs.Text.{text}
 use Rattle.text.specs.Word.{isWord}
 use Rattle.arm.specs.declared.ArmFormat.the-variants as A

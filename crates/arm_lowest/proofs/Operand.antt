@@ -13,7 +13,6 @@ use Rattle.arm.specs.Fields.{bsOp, operand2, shiftRegBy}
 use Rattle.arm7tdmi.specs.Names.{regString}
 use Rattle.arm7tdmi.specs.declared.alu.Sign.{Sign}
 use Rattle.arm_operand.specs.Operand.{byAmount, byRegister, decodedText, fmtOperand2, immediate, isLsl0, shiftBy, shiftText, shiftedRegister}
-use Rattle.arm_lowest.proofs.Parts.{regroup}
 use Rattle.arm_lowest.proofs.Rotation.{immediate-least, immediate-lt, immediateAt}
 use Rattle.arm_candidate.specs.CandidateOperand.{immediateOf, isNumber, operandOf, shiftNamed, shiftNames, shiftedOf}
 use Rattle.arm_words.proofs.Operand.{ShiftLeast, operand-read, shift-least, shiftLeast}
@@ -21,7 +20,7 @@ use Rattle.common.proofs.Lists.{agreed}
 use Rattle.common.proofs.Tests.{at, at-not, by-test}
 use Rattle.common.specs.Bits.{bit, bitRange}
 use Rattle.common.specs.Lists.{first, same}
-use Rattle.reading.proofs.Pieces.{Pieces, first-word, firstOf, good, last, piece, spell, word-nth}
+use Rattle.reading.proofs.Pieces.{Pieces, first-word, firstOf, good, last, piece, regroup, spell, word-nth}
 use Rattle.text.proofs.Digits.{dec-back}
 use Rattle.text.proofs.Word.{dec-first, dec-wordy, prefixed-wordy, wordy}
 use Rattle.text.specs.Digits.{dec, prefixed}

@@ -18,7 +18,6 @@ use Rattle.arm_lowest.proofs.Found.{Law, fifteen, least-found, pieces-r
 use Rattle.arm_lowest.proofs.Heads.{ldr-reads, ldrBits, ldrStem}
 use Rattle.arm_lowest.proofs.Offset.{number-added, number-same, number-says, number-size, number-spelled, offset, offset-seen, offsetLead, register-added, register-says, register-shifted, register-spelled, sep, shownU, transfer-base, transfer-good, transferPieces}
 use Rattle.arm_lowest.proofs.Operand.{shift-same, shift-spelled}
-use Rattle.arm_lowest.proofs.Parts.{flag-back}
 use Rattle.reading.specs.Parts.{flag}
 use Rattle.arm_candidate.specs.CandidateTransfer.{ldrCand, ldrOffset}
 use Rattle.arm_words.proofs.Operand.{shift-least, shiftLeast}
@@ -26,7 +25,7 @@ use Rattle.arm_words.proofs.Scheme.{Least, Words}
 use Rattle.arm_words.proofs.Transfer.{LdrFields, ldr-least, ldr-read, ldr-words, ldrU, ldrWord, unsigned}
 use Rattle.common.proofs.Tests.{by-test}
 use Rattle.common.specs.Bits.{bitRange}
-use Rattle.reading.proofs.Pieces.{Pieces, spell}
+use Rattle.reading.proofs.Pieces.{Pieces, flag-back, spell}
 use Rattle.text.proofs.Word.{wordy}
 use Rattle.text.specs.Text.{text}
 use Rattle.arm7tdmi.specs.declared.alu.BarrelShifterValue.the-variants as Value

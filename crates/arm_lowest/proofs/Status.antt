@@ -18,7 +18,6 @@ use Rattle.arm_disass.specs.Line.{fmtMrs, fmtMsr, fmtMsrFlags, lineOf}
 use Rattle.arm_lowest.proofs.Found.{Law, exact, fifteen, least-found, pieces-read, printed-line}
 use Rattle.arm_lowest.proofs.Heads.{mrs-reads, msr-reads, pick}
 use Rattle.arm_lowest.proofs.Operand.{lead, number-back, op-least, op-spelled, opLeast, register-back, shift-alone, shift-good, shift-same, shiftPieces}
-use Rattle.arm_lowest.proofs.Parts.{regroup}
 use Rattle.arm_lowest.proofs.Rotation.{immediate-least, immediateAt}
 use Rattle.arm_candidate.specs.CandidateOperand.{operandOf}
 use Rattle.reading.specs.Parts.{flag}
@@ -28,7 +27,7 @@ use Rattle.arm_words.proofs.Scheme.{Words}
 use Rattle.arm_words.proofs.Status.{FlagsFields, MrsFields, MsrFields, flags-least, flags-read, flags-words, flagsWord, mrs-read, mrs-words, mrsWord, msr-read, msr-words, msrWord}
 use Rattle.common.proofs.Tests.{by-test}
 use Rattle.common.specs.Bits.{bit, bitRange}
-use Rattle.reading.proofs.Pieces.{Pieces, first-rest, from-nth, good, has-gaps, last, none, piece, spell, word-nth}
+use Rattle.reading.proofs.Pieces.{Pieces, first-rest, from-nth, good, has-gaps, last, none, piece, regroup, spell, word-nth}
 use Rattle.text.proofs.Word.{dec-wordy, prefixed-wordy, wordy}
 use Rattle.text.specs.Digits.{dec, prefixed}
 use Rattle.text.specs.Text.{text}

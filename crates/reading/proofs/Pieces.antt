@@ -1,12 +1,14 @@
--- A line as words with what separates them, and one law for all its words. Assumes nothing.
-use Prim.Native.Nat.{suc, zero, ℕ}
-use borrow.Author.Tests.{ne-eqb}
+-- A line as words with what separates them, and one law for all its words; texts regrouped, and a mark read back. Assumes nothing.
+use Prim.Native.Nat.{_<_, suc, zero, ℕ}
+use borrow.Author.Tests.{eqb-false, eqb-true, ne-eqb}
 use lib.Dec.{eqb}
 use mathlib.Core.Bool.{Bool, _&&_, _||_, false, true, true≢false}
 use mathlib.Core.List.{List, [], _++_, _∷_, append-assoc, append-nil}
 use mathlib.Core.Path.{_∙_, _≡_, ap, refl, sym}
-use Rattle.common.proofs.Tests.{and-left, and-right, at}
+use native.Mathlib.Omega.{arith}
+use Rattle.common.proofs.Tests.{and-left, and-right, at, by-test}
 use Rattle.common.specs.Lists.{first}
+use Rattle.reading.specs.Parts.{flag}
 use Rattle.text.proofs.Word.{after-of, behind-of, gap, gap-all, gap-starts, stops, word-of, wordy, wordy-all, wordy-starts}
 use Rattle.text.specs.Word.{has, after, all, behind, fromWord, isWord, word}
 
@@ -161,3 +163,24 @@ ended-gaps x (piece w g ps) z e = rw (ended-gaps x ps z e) (sym (or-assoc (has x
 -- a line that begins with no word, as `LSL` in capitals does: its words follow
 pub lead-from : (g : List ℕ) (ps : Pieces) → gap g ≡ true → good ps ≡ true → (word (g ++ spell ps) ≡ []) × (after (g ++ spell ps) ≡ spell ps)
 lead-from g ps e h = (word-of [] (g ++ spell ps) refl (gap-starts g (spell ps) e), after-of [] g (spell ps) refl (gap-starts g (spell ps) e) (gap-all g e) (good-starts ps h))
+
+-- ---- a sum of texts, bracketed from the left as lines are written, or from the right as pieces are spelled
+abbrev left : List ℕ → List (List ℕ) → List ℕ
+left a [] = a
+left a (b ∷ ts) = left (a ++ b) ts
+
+abbrev right : List ℕ → List (List ℕ) → List ℕ
+right a [] = a
+right a (b ∷ ts) = a ++ right b ts
+
+right-more : (a b : List ℕ) (ts : List (List ℕ)) → right (a ++ b) ts ≡ a ++ right b ts
+right-more a b [] = refl
+right-more a b (c ∷ ts) = append-assoc a b (right c ts)
+
+pub regroup : (a : List ℕ) (ts : List (List ℕ)) → left a ts ≡ right a ts
+regroup a [] = refl
+regroup a (b ∷ ts) = regroup (a ++ b) ts ∙ right-more a b ts
+
+-- ---- a bit that a mark shows is read back
+pub flag-back : (n : ℕ) → n < 2 → flag (eqb n 1) ≡ n
+flag-back n h = by-test (eqb n 1) (λ e. rw e (sym (eqb-true n 1 e))) (λ e. let z = eqb-false n 1 e in rw e (omega arith))

@@ -19,7 +19,7 @@ use Rattle.arm7tdmi.specs.declared.Form.the-variants.{Bench, Sheet}
 use Rattle.thumb.specs.declared.ThumbFormat.{ThumbFormat}
 use Rattle.common.proofs.Tests.{by-test}
 use Rattle.common.specs.Lists.{first, same}
-use Rattle.reading.proofs.Pieces.{good, last, piece, spell, word-nth}
+use Rattle.reading.proofs.Pieces.{good, last, piece, regroup, spell, word-nth}
 use Rattle.text.proofs.Digits.{prefixed-back}
 use Rattle.text.proofs.Word.{prefixed-wordy}
 use Rattle.text.specs.Digits.{prefixed}
@@ -27,7 +27,6 @@ use Rattle.text.specs.Text.{text}
 use Rattle.text.specs.Word.{isWord}
 use Rattle.thumb_disass.specs.Line.{fmtThumbBranch, fmtThumbBranchLongWithLink, fmtThumbBranchWithCond, lineOf}
 use Rattle.thumb_lowest.proofs.Found.{Law, Mnemonic, Words, exact, row-is, rows-are}
-use Rattle.thumb_lowest.proofs.Parts.{regroup}
 use Rattle.thumb_candidate.specs.Candidate.{callUnit, offsetIn, operands, suits}
 use Rattle.thumb_mnemonic.specs.Rows.{rows}
 use Rattle.thumb_words.proofs.Laws.{conditions, parts, thumb-read, thumb-words}

@@ -13,13 +13,12 @@ use Rattle.arm7tdmi.specs.declared.Form.{Form}
 use Rattle.arm7tdmi.specs.declared.Form.the-variants.{Bench, Sheet}
 use Rattle.common.proofs.Tests.{at, by-test}
 use Rattle.common.specs.Lists.{first, same}
-use Rattle.reading.proofs.Pieces.{Pieces, good, last, piece, spell, word-nth}
+use Rattle.reading.proofs.Pieces.{Pieces, good, last, piece, regroup, spell, word-nth}
 use Rattle.text.specs.Text.{text}
 use Rattle.text.specs.Word.{isWord}
 use Rattle.thumb_operand.specs.Operand.{dstAndSrc, dstReg, highDst, highOperands, srcReg}
 use Rattle.thumb_disass.specs.Line.{fmtThumbHighRegOpOrBx, op5Text, lineOf}
 use Rattle.thumb_lowest.proofs.Found.{Law, Mnemonic, Words, found, rows-are}
-use Rattle.thumb_lowest.proofs.Parts.{regroup}
 use Rattle.thumb_candidate.specs.Candidate.{highIn, operands, suits}
 use Rattle.thumb_mnemonic.specs.Rows.{rows}
 use Rattle.thumb_words.proofs.Laws.{NoHigher, parts, thumb-lower, thumb-read, thumb-words}

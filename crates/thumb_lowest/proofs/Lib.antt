@@ -1,5 +1,4 @@
 pub mod Found
-pub mod Parts
 pub mod Low
 pub mod Wide
 pub mod Branches

@@ -17,7 +17,7 @@ use Rattle.arm7tdmi.specs.declared.Form.{Form}
 use Rattle.thumb.specs.declared.ThumbFormat.{ThumbFormat}
 use Rattle.common.proofs.Tests.{at, by-test}
 use Rattle.common.specs.Lists.{first, same}
-use Rattle.reading.proofs.Pieces.{Pieces, first-word, firstOf, gapsHave, good, has-append, has-gaps, last, lead-from, none, piece, spell, word-nth}
+use Rattle.reading.proofs.Pieces.{Pieces, first-word, firstOf, gapsHave, good, has-append, has-gaps, last, lead-from, none, piece, regroup, spell, word-nth}
 use Rattle.text.proofs.Digits.{dec-back, hex-back, prefixed-back}
 use Rattle.text.proofs.Word.{dec-wordy, gap, hex-wordy, prefixed-wordy, wordy}
 use Rattle.text.specs.Digits.{dec, hex, prefixed}
@@ -26,7 +26,6 @@ use Rattle.text.specs.Word.{after, fromWord, has, isWord, word}
 use Rattle.thumb_operand.specs.Operand.{addSubOperand, immOffset}
 use Rattle.thumb_disass.specs.Line.{aluOpText, fmtThumbAddSub, fmtThumbAluOps, fmtThumbLdrStrHalfword, fmtThumbLdrStrImmOffset, fmtThumbLdrStrRegOffset, fmtThumbLdrStrShb, fmtThumbMoveShiftedReg, shbText, shiftText, lineOf}
 use Rattle.thumb_lowest.proofs.Found.{Law, Mnemonic, Words, exact, pick, rows-are, rows-are₂, whole-found}
-use Rattle.thumb_lowest.proofs.Parts.{regroup}
 use Rattle.thumb_candidate.specs.Candidate.{lowIn, operands, shiftIn, thirdIn, transferUnit, suits}
 use Rattle.thumb_mnemonic.specs.Rows.{rows}
 use Rattle.reading.specs.Parts.{flag}

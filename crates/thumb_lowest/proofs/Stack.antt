@@ -15,7 +15,7 @@ use Rattle.arm7tdmi.specs.declared.Form.the-variants.{Bench, Sheet}
 use Rattle.common.proofs.Lists.{agreed}
 use Rattle.common.proofs.Tests.{by-test}
 use Rattle.common.specs.Lists.{first, same}
-use Rattle.reading.proofs.Pieces.{Pieces, from-nth, good, has-gaps, last, piece, spell, word-nth}
+use Rattle.reading.proofs.Pieces.{Pieces, flag-back, from-nth, good, has-gaps, last, piece, regroup, spell, word-nth}
 use Rattle.text.proofs.Digits.{hex-back, prefixed-back}
 use Rattle.text.proofs.Word.{hex-wordy, prefixed-wordy}
 use Rattle.text.specs.Digits.{hex, prefixed}
@@ -24,7 +24,6 @@ use Rattle.text.specs.Word.{fromWord, has, isWord}
 use Rattle.thumb_operand.specs.Operand.{baseText, linkName, pushPopList, sheetSpOffset, spBits, spOffset, spSize}
 use Rattle.thumb_disass.specs.Line.{fmtThumbAddSp, fmtThumbLdmStm, fmtThumbPushPop, lineOf}
 use Rattle.thumb_lowest.proofs.Found.{Law, Words, exact, found, pick, row-is, rows-are}
-use Rattle.thumb_lowest.proofs.Parts.{flag-back, regroup}
 use Rattle.reading.proofs.RegisterList.{behindWord, below-append, below16, bits-below, bits-few, bits-sum, list-back, list-first, list-good, list-spelled, same-bits, sum-append, sumOf}
 use Rattle.thumb_candidate.specs.Candidate.{blockIn, operands, signed, spIn, stackIn, suits}
 use Rattle.thumb_mnemonic.specs.Rows.{rows}

@@ -18,7 +18,7 @@ use Rattle.arm7tdmi.specs.declared.Form.{Form}
 use Rattle.thumb.specs.declared.ThumbFormat.{ThumbFormat}
 use Rattle.common.proofs.Tests.{at}
 use Rattle.common.specs.Lists.{first, same}
-use Rattle.reading.proofs.Pieces.{Pieces, firstOf, good, last, none, piece, spell, word-nth}
+use Rattle.reading.proofs.Pieces.{Pieces, firstOf, good, last, none, piece, regroup, spell, word-nth}
 use Rattle.text.proofs.Word.{gap, prefixed-wordy, wordy}
 use Rattle.text.proofs.Digits.{prefixed-back}
 use Rattle.text.specs.Digits.{prefixed}
@@ -26,7 +26,6 @@ use Rattle.text.specs.Text.{text}
 use Rattle.text.specs.Word.{fromWord, isWord, word}
 use Rattle.thumb_disass.specs.Line.{fmtThumbDataProcessImm, fmtThumbLdrPc, fmtThumbLdrStrSp, fmtThumbLoadAddress, fmtThumbSwi, op3Text, lineOf}
 use Rattle.thumb_lowest.proofs.Found.{Law, Mnemonic, Words, exact, pick, row-is, rows-are}
-use Rattle.thumb_lowest.proofs.Parts.{regroup}
 use Rattle.thumb_candidate.specs.Candidate.{operands, wideIn, suits}
 use Rattle.thumb_mnemonic.specs.Rows.{rows}
 use Rattle.reading.specs.Parts.{flag}
