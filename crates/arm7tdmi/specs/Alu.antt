@@ -1,12 +1,17 @@
 -- Opcodes, shifts and operands. Assumes nothing.
-use mathlib.Core.Bool.{Bool, true, false}
+use mathlib.Core.Bool.{Bool, true, false, cond}
 use mathlib.Core.List.{List, [], _∷_}
 use Prim.Native.Nat.{ℕ, _+_, _-_, _*_, _/_, _%_, _^_}
+use lib.Dec.{eqb}
 use lib.ListN.{getD}
+use Rattle.arm7tdmi.specs.declared.Form.{Form}
+use Rattle.arm7tdmi.specs.declared.Form.the-variants.{Bench, Sheet}
 use Rattle.arm7tdmi.specs.declared.alu.AluOpCode.{AluOpCode}
 use Rattle.arm7tdmi.specs.declared.alu.AluOpCode.the-variants as Op
 use Rattle.arm7tdmi.specs.declared.alu.BarrelShiftOpCode.{BarrelShiftOpCode}
 use Rattle.arm7tdmi.specs.declared.alu.BarrelShiftOpCode.the-variants as Shift
+use Rattle.arm7tdmi.specs.declared.alu.Amount.{Amount}
+use Rattle.arm7tdmi.specs.declared.alu.Amount.the-variants.{Places, Rrx}
 use Rattle.arm7tdmi.specs.declared.alu.BarrelShifterValue.{BarrelShifterValue}
 use Rattle.arm7tdmi.specs.declared.alu.BarrelShifterValue.the-variants as Value
 use Rattle.arm7tdmi.specs.declared.alu.Decoded.{Decoded}
@@ -69,6 +74,28 @@ barrelShiftNumber Shift.LSL = 0
 barrelShiftNumber Shift.LSR = 1
 barrelShiftNumber Shift.ASR = 2
 barrelShiftNumber Shift.ROR = 3
+
+-- ---- what the immediate amount of a shift means
+-- S10: "By the data sheet, an immediate amount of 0 means 32 for LSR and ASR, and RRX for ROR"; LSL #0 is no shift, and stays 0 (ARM DDI 0029: Data
+-- Processing, Shifts; of Thumb, Format 1: move shifted register)
+abbrev pub amountOfZero : BarrelShiftOpCode → Amount
+amountOfZero Shift.LSL = Places 0
+amountOfZero Shift.LSR = Places 32
+amountOfZero Shift.ASR = Places 32
+amountOfZero Shift.ROR = Rrx
+
+unfoldable pub sheetAmount : BarrelShiftOpCode → ℕ → Amount
+sheetAmount op n = cond (eqb n 0) (amountOfZero op) (Places n)
+
+-- "Bench lines keep the field's value"
+unfoldable pub amountOf : Form → BarrelShiftOpCode → ℕ → Amount
+amountOf Bench op n = Places n
+amountOf Sheet op n = sheetAmount op n
+
+-- the places that are stated; of RRX none
+abbrev pub places : Amount → ℕ
+places (Places n) = n
+places Rrx = 0
 
 -- a word of 32 bits cut into its upper part and its lowest k bits, and these put on top
 abbrev turned : ℕ → ℕ → ℕ

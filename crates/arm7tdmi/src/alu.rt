@@ -1,7 +1,8 @@
 // Opcodes, shifts and operands.
 ghost use mathlib.Core.Path.{_≡_};
 ghost use Prim.Native.Nat.{_%_, _<_};
-ghost use Rattle.arm7tdmi.specs.Alu.{aluOpCode, aluNumber, isSettingFlags, barrelShiftOpCode, barrelShiftNumber, rotateRight, decodeRotatedImmediate};
+ghost use Rattle.arm7tdmi.specs.Alu.{aluOpCode, aluNumber, isSettingFlags, barrelShiftOpCode, barrelShiftNumber, amountOfZero, sheetAmount, amountOf, places, rotateRight, decodeRotatedImmediate};
+use crate::Form;
 
 pub enum AluOpCode {
     AND,
@@ -124,6 +125,54 @@ impl BarrelShiftOpCode {
             BarrelShiftOpCode::LSR => 1,
             BarrelShiftOpCode::ASR => 2,
             BarrelShiftOpCode::ROR => 3,
+        }
+    }
+
+    // What an amount of 0 means by the data sheet.
+    fn amount_of_zero(self) -> Amount
+        ensures { λ r. ⌜ r ≡ amountOfZero self ⌝ }
+    {
+        match self {
+            BarrelShiftOpCode::LSL => Amount::Places(0),
+            BarrelShiftOpCode::LSR => Amount::Places(32),
+            BarrelShiftOpCode::ASR => Amount::Places(32),
+            BarrelShiftOpCode::ROR => Amount::Rrx,
+        }
+    }
+
+    fn sheet_amount(self, n: u32) -> Amount
+        ensures { λ r. ⌜ r ≡ sheetAmount self n ⌝ }
+    {
+        if n == 0 {
+            return self.amount_of_zero();
+        }
+        Amount::Places(n)
+    }
+
+    // S10: what an immediate amount means; on the bench, what the field holds.
+    pub fn amount(self, form: Form, n: u32) -> Amount
+        ensures { λ r. ⌜ r ≡ amountOf form self n ⌝ }
+    {
+        match form {
+            Form::Bench => Amount::Places(n),
+            Form::Sheet => self.sheet_amount(n),
+        }
+    }
+}
+
+// The immediate amount of a shift as a line states it.
+pub enum Amount {
+    Places(u32),
+    Rrx,
+}
+
+impl Amount {
+    pub fn places(self) -> u32
+        ensures { λ r. ⌜ r ≡ places self ⌝ }
+    {
+        match self {
+            Amount::Places(n) => n,
+            Amount::Rrx => 0,
         }
     }
 }

@@ -139,7 +139,7 @@ line-within form A.SingleDataTransfer pc raw =
     (omega arith) (omega arith)
 line-within form A.HalfwordDataTransferRegOffset pc raw = half-line form pc raw (ldrStrHsRegOffset raw)
 line-within form A.HalfwordDataTransferImmediateOffset pc raw = half-line form pc raw (ldrStrHsImmOffset raw)
-line-within form A.DataProcessing pc raw = loosely (op-head form raw (aluOpCode (bitRange raw 21 25)) & operand (operand2 raw)) (omega arith) (omega arith)
+line-within form A.DataProcessing pc raw = loosely (op-head form raw (aluOpCode (bitRange raw 21 25)) & operand form (operand2 raw)) (omega arith) (omega arith)
 line-within form A.BlockDataTransfer pc raw = ldm raw
 line-within form A.SingleDataSwap pc raw =
     loosely
@@ -154,11 +154,11 @@ line-within form A.MoveFromStatus pc raw =
     (omega arith) (omega arith)
 line-within form A.MoveToStatus pc raw =
     loosely
-    (exactly (text "msr") & mark raw & exactly (text "\t") & either-within raw 22 (exactly (text "SPSR")) (exactly (text "CPSR")) & exactly (text ", ") & operand (operand2 raw))
+    (exactly (text "msr") & mark raw & exactly (text "\t") & either-within raw 22 (exactly (text "SPSR")) (exactly (text "CPSR")) & exactly (text ", ") & operand form (operand2 raw))
     (omega arith) (omega arith)
 line-within form A.MoveToFlags pc raw =
     loosely
-    (exactly (text "msr") & mark raw & exactly (text "\t") & either-within raw 22 (exactly (text "SPSR_f")) (exactly (text "CPSR_f")) & exactly (text ", ") & operand (operand2 raw)
+    (exactly (text "msr") & mark raw & exactly (text "\t") & either-within raw 22 (exactly (text "SPSR_f")) (exactly (text "CPSR_f")) & exactly (text ", ") & operand form (operand2 raw)
     & flags-within (decodeRotatedImmediate (operand2 raw)))
     (omega arith) (omega arith)
 line-within form A.Undefined pc raw = loosely (exactly (text "<Undefined>")) (omega arith) (omega arith)

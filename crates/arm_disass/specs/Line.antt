@@ -1,5 +1,5 @@
 -- The lines of ARM words, bench and sheet: one definition for each `fmt_` function of the Rust's arm/disass.rs, in its order, with the Rust's
--- format beside it. The form stands where the sheet line differs: S3 of document 01 (S1 and S4 are an operand's, S2 the kind's), and S9
+-- format beside it. The form stands where the sheet line differs: S3 of document 01 (S1, S4 and S10 are an operand's, S2 the kind's), and S9
 -- where an address is shown. Assumes nothing.
 use mathlib.Core.Bool.{Bool, true, false, cond, _&&_, not}
 use mathlib.Core.List.{List, [], _++_}
@@ -98,7 +98,7 @@ unfoldable pub fmtOpcode : Form → ℕ → AluOpCode → List ℕ
 fmtOpcode form raw op = cond (isMove op) (fmtMove form raw op) (cond (isSettingFlags op) (fmtTest raw op) (fmtThree form raw op))
 
 unfoldable pub fmtDataProcessing : Form → ℕ → List ℕ
-fmtDataProcessing form raw = fmtOpcode form raw (aluOpCode (bitRange raw 21 25)) ++ fmtOperand2 (operand2 raw)
+fmtDataProcessing form raw = fmtOpcode form raw (aluOpCode (bitRange raw 21 25)) ++ fmtOperand2 form (operand2 raw)
 
 -- ---- fmt_ldr_str: "{mnem}{B}{T}{cond}\t{Rd}, "; "`t` where P is clear and W set"
 unfoldable pub userMark : ℕ → List ℕ
@@ -125,13 +125,13 @@ unfoldable pub fmtMrs : ℕ → List ℕ
 fmtMrs raw = text "mrs" ++ condMark raw ++ text "\t" ++ regAt raw 12 16 ++ text ", " ++ either raw 22 (text "SPSR") (text "CPSR")
 
 -- ---- fmt_msr: "msr{cond}\t{psr}, ", operand 2
-unfoldable pub fmtMsr : ℕ → List ℕ
-fmtMsr raw = text "msr" ++ condMark raw ++ text "\t" ++ either raw 22 (text "SPSR") (text "CPSR") ++ text ", " ++ fmtOperand2 (operand2 raw)
+unfoldable pub fmtMsr : Form → ℕ → List ℕ
+fmtMsr form raw = text "msr" ++ condMark raw ++ text "\t" ++ either raw 22 (text "SPSR") (text "CPSR") ++ text ", " ++ fmtOperand2 form (operand2 raw)
 
 -- ---- fmt_msr_flags: "msr{cond}\t{psr}, ", operand 2, and of an immediate the flags
-unfoldable pub fmtMsrFlags : ℕ → List ℕ
-fmtMsrFlags raw =
-    text "msr" ++ condMark raw ++ text "\t" ++ either raw 22 (text "SPSR_f") (text "CPSR_f") ++ text ", " ++ fmtOperand2 (operand2 raw)
+unfoldable pub fmtMsrFlags : Form → ℕ → List ℕ
+fmtMsrFlags form raw =
+    text "msr" ++ condMark raw ++ text "\t" ++ either raw 22 (text "SPSR_f") (text "CPSR_f") ++ text ", " ++ fmtOperand2 form (operand2 raw)
     ++ flagsComment (decodeRotatedImmediate (operand2 raw))
 
 -- ---- fmt_mul_mla: "mla{S}{cond}\t{Rd}, {Rm}, {Rs}, {Rn}", "mul{S}{cond}\t{Rd}, {Rm}, {Rs}"
@@ -190,6 +190,6 @@ lineOf form A.DataProcessing pc raw = fmtDataProcessing form raw
 lineOf form A.BlockDataTransfer pc raw = fmtLdmStm raw
 lineOf form A.SingleDataSwap pc raw = fmtSwp raw
 lineOf form A.MoveFromStatus pc raw = fmtMrs raw
-lineOf form A.MoveToStatus pc raw = fmtMsr raw
-lineOf form A.MoveToFlags pc raw = fmtMsrFlags raw
+lineOf form A.MoveToStatus pc raw = fmtMsr form raw
+lineOf form A.MoveToFlags pc raw = fmtMsrFlags form raw
 lineOf form A.Undefined pc raw = text "<Undefined>"

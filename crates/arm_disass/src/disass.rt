@@ -167,7 +167,7 @@ pub fn fmt_data_processing(buf: &mut [u8], at: usize, form: Form, raw: u32) -> u
     let op = opcode(raw);
     let operand = operand2(raw);
     let at = fmt_opcode(buf, at, form, raw, op);
-    fmt_operand2(buf, at, operand)
+    fmt_operand2(buf, at, form, operand)
 }
 
 // `t`, where P is clear and W set.
@@ -219,19 +219,19 @@ pub fn fmt_mrs(buf: &mut [u8], at: usize, raw: u32) -> usize
     put_either(buf, at, raw, 22, b"SPSR", b"CPSR")
 }
 
-pub fn fmt_msr(buf: &mut [u8], at: usize, raw: u32) -> usize
-    ensures { λ r. ⌜ Wrote (now (buf .entry)) at (fmtMsr raw) (now (buf .exit)) r ⌝ }
+pub fn fmt_msr(buf: &mut [u8], at: usize, form: Form, raw: u32) -> usize
+    ensures { λ r. ⌜ Wrote (now (buf .entry)) at (fmtMsr form raw) (now (buf .exit)) r ⌝ }
 {
     let operand = operand2(raw);
     let at = put_text(buf, at, b"msr");
     let at = put_cond_tab(buf, at, raw);
     let at = put_either(buf, at, raw, 22, b"SPSR", b"CPSR");
     let at = put_text(buf, at, b", ");
-    fmt_operand2(buf, at, operand)
+    fmt_operand2(buf, at, form, operand)
 }
 
-pub fn fmt_msr_flags(buf: &mut [u8], at: usize, raw: u32) -> usize
-    ensures { λ r. ⌜ Wrote (now (buf .entry)) at (fmtMsrFlags raw) (now (buf .exit)) r ⌝ }
+pub fn fmt_msr_flags(buf: &mut [u8], at: usize, form: Form, raw: u32) -> usize
+    ensures { λ r. ⌜ Wrote (now (buf .entry)) at (fmtMsrFlags form raw) (now (buf .exit)) r ⌝ }
 {
     let operand = operand2(raw);
     let decoded = operand.decode_rotated_immediate();
@@ -239,7 +239,7 @@ pub fn fmt_msr_flags(buf: &mut [u8], at: usize, raw: u32) -> usize
     let at = put_cond_tab(buf, at, raw);
     let at = put_either(buf, at, raw, 22, b"SPSR_f", b"CPSR_f");
     let at = put_text(buf, at, b", ");
-    let at = fmt_operand2(buf, at, operand);
+    let at = fmt_operand2(buf, at, form, operand);
     put_flags_comment(buf, at, decoded)
 }
 

@@ -42,8 +42,8 @@ pub fn put_line(buf: &mut [u8], form: Form, fmt: ArmFormat, pc: u32, raw: u32) -
         ArmFormat::BlockDataTransfer => fmt_ldm_stm(buf, 0, raw),
         ArmFormat::SingleDataSwap => fmt_swp(buf, 0, raw),
         ArmFormat::MoveFromStatus => fmt_mrs(buf, 0, raw),
-        ArmFormat::MoveToStatus => fmt_msr(buf, 0, raw),
-        ArmFormat::MoveToFlags => fmt_msr_flags(buf, 0, raw),
+        ArmFormat::MoveToStatus => fmt_msr(buf, 0, form, raw),
+        ArmFormat::MoveToFlags => fmt_msr_flags(buf, 0, form, raw),
         ArmFormat::Undefined => put_text(buf, 0, b"<Undefined>"),
     }
 }

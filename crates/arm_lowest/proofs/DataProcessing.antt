@@ -44,8 +44,8 @@ dpFirst form op rn rd = cond (showsRd form op) rd rn
 abbrev dpPieces : Form → ℕ → ℕ → ℕ → ℕ → ℕ → ℕ → ℕ → Pieces
 dpPieces form c i op s rn rd n =
     piece (dpStem op s ++ condText c) (text "\t")
-    (cond (isThree op) (piece (regString (dpFirst form op rn rd)) (text ", ") (piece (regString rn) (text ", " ++ lead i) (opPieces i n)))
-    (piece (regString (dpFirst form op rn rd)) (text ", " ++ lead i) (opPieces i n)))
+    (cond (isThree op) (piece (regString (dpFirst form op rn rd)) (text ", ") (piece (regString rn) (text ", " ++ lead i) (opPieces form i n)))
+    (piece (regString (dpFirst form op rn rd)) (text ", " ++ lead i) (opPieces form i n)))
 
 rd-first : (form : Form) {c i op s rn rd n : ℕ} → DpFields c i op s rn rd n → dpTest op ≡ false → rdText form (dpWord c i op s rn rd n) ≡ regString (dpFirst form op rn rd)
 unfolding rdText regAt
@@ -60,19 +60,19 @@ dp-spelled : (form : Form) {c i op s rn rd n : ℕ} → DpFields c i op s rn rd 
 unfolding fmtDataProcessing fmtOpcode fmtMove fmtTest fmtThree ifSet condAt regAt
 dp-spelled form {c} {i} {op} {s} {rn} {rd} {n} f =
     let r = dp-read f in
-    let o = op-spelled (dpWord c i op s rn rd n) i n (r .1) (r .6) in
+    let o = op-spelled form (dpWord c i op s rn rd n) i n (r .1) (r .6) in
     let m = dp-move op (f .hop) in
     let t = dp-test op (f .hop) in
     by-test (dpTest op)
     (λ e. let h : dpMove op ≡ false = by-test (dpMove op) (λ y. absurd (true≢false (sym e ∙ move-test op y))) (λ y. y) in
     rw (o, r .2, m, h, t, e, r .0, r .4, test-first form op rn rd e)
-    (regroup (opText (aluOpCode op) ++ condText c) (text "\t" ∷ regString rn ∷ text ", " ∷ (lead i ++ spell (opPieces i n)) ∷ [])))
+    (regroup (opText (aluOpCode op) ++ condText c) (text "\t" ∷ regString rn ∷ text ", " ∷ (lead i ++ spell (opPieces form i n)) ∷ [])))
     (λ e. let d = rd-first form f e in
     by-test (dpMove op)
     (λ h. rw (o, r .2, m, h, e, r .0, r .3, d)
-    (regroup (opText (aluOpCode op) ++ pick s (text "s") [] ++ condText c) (text "\t" ∷ regString (dpFirst form op rn rd) ∷ text ", " ∷ (lead i ++ spell (opPieces i n)) ∷ [])))
+    (regroup (opText (aluOpCode op) ++ pick s (text "s") [] ++ condText c) (text "\t" ∷ regString (dpFirst form op rn rd) ∷ text ", " ∷ (lead i ++ spell (opPieces form i n)) ∷ [])))
     (λ h. rw (o, r .2, m, h, t, e, r .0, r .3, r .4, d)
-    (regroup (opText (aluOpCode op) ++ pick s (text "s") [] ++ condText c) (text "\t" ∷ regString (dpFirst form op rn rd) ∷ text ", " ∷ regString rn ∷ text ", " ∷ (lead i ++ spell (opPieces i n)) ∷ []))))
+    (regroup (opText (aluOpCode op) ++ pick s (text "s") [] ++ condText c) (text "\t" ∷ regString (dpFirst form op rn rd) ∷ text ", " ∷ regString rn ∷ text ", " ∷ (lead i ++ spell (opPieces form i n)) ∷ []))))
 
 -- ---- its candidate
 mrs-shape : (i op rn n : ℕ) → rn < 16 → isMrs op rn (i * 2 ^ 25 + n) ≡ mrsShape i op rn n
@@ -141,7 +141,7 @@ module _ (form : Form) {c i op s rn rd n : ℕ} (f : DpFields c i op s rn rd n) 
 
   dp-same : dpPieces form c i op (dpS i op s R k) R D k ≡ ps
   dp-same =
-      let o = op-least i n (f .hi) (f .hn) .words in
+      let o = op-least form i n (f .hi) (f .hn) .words in
       by-test (isThree op)
       (λ e. let r : R ≡ rn = sym (rn-shown form op rn) ∙ rw e in rw (stem-same, first-same, e, o, r))
       (λ e. rw (stem-same, first-same, e, o))
@@ -160,7 +160,7 @@ module _ (form : Form) {c i op s rn rd n : ℕ} (f : DpFields c i op s rn rd n) 
         let h = dp-mnemonic .one-word in
         let a = reg-wordy (dpFirst form op rn rd) first-small in
         let b = reg-wordy rn (f .hrn) in
-        let o = op-good i n in
+        let o = op-good form i n in
         let g = lead-gap in
         by-test (isThree op) (λ e. rw (e, h, a, b, g, o)) (λ e. rw (e, h, a, g, o))
 
@@ -178,8 +178,8 @@ module _ (form : Form) {c i op s rn rd n : ℕ} (f : DpFields c i op s rn rd n) 
 
     operand-back : operandIn op (spell ps) ≡ i * 2 ^ 25 + k
     operand-back =
-        operand-named form op (spell ps) (spell (opPieces i n)) (λ e. from-nth 3 ps dp-good .0 ∙ rw e) (λ e. from-nth 2 ps dp-good .0 ∙ rw e)
-        ∙ op-back i n (f .hi) (f .hn)
+        operand-named form op (spell ps) (spell (opPieces form i n)) (λ e. from-nth 3 ps dp-good .0 ∙ rw e) (λ e. from-nth 2 ps dp-good .0 ∙ rw e)
+        ∙ op-back form i n (f .hi) (f .hn)
 
     s-small : cond (dpTest op) 0 s < 2
     s-small = by-test (dpTest op) (λ e. rw e (omega arith)) (λ e. rw e (f .hs))
@@ -203,7 +203,7 @@ unfolding lineOf
 dp-law form pc = dp-words form (Law 0 dpCand form pc) (λ c i op s rn rd n f e t q.
     let p = printed-line form A.DataProcessing pc (dpWord c i op s rn rd n) e t q in
     let hc = fifteen (dpWord c i op s rn rd n) (dp-read f .0) (f .hc) (p .when refl) in
-    let o = op-least i n (f .hi) (f .hn) in
+    let o = op-least form i n (f .hi) (f .hn) in
     let l = dp-least f form e (opLeast i n) (o .low) (o .reg) in
     pieces-read (dpPieces form c i op s rn rd n) (p .text ∙ dp-spelled form f) (dp-good form f hc) (dp-mnemonic form f hc)
     (rw (dp-back form f hc pc) (least-found pc t e q l (λ z. dp-read (l .fields) .0 ∙ sym (dp-read f .0)) refl (dp-spelled form (l .fields) ∙ ap spell (dp-same form f) ∙ sym (dp-spelled form f)))))

@@ -38,9 +38,9 @@ halfPieces form pc c i p u w l k rn rd hi lo =
     transferPieces (halfStem l k ++ condText c) p rn rd (offsetLead form (eqb i 1) u) (offset form pc (eqb i 1) p u w rn (hi * 2 ^ 4 + lo))
 
 -- a register, as a shifted one
-register-text : (r : ℕ) (s : Sign) → r < 16 → shiftedRegister (record { reg = r; «shift_by» = By.ByAmount 0; «bs_op» = Shift.LSL; added = s }) ≡ spell (shiftPieces r)
+register-text : (form : Form) (r : ℕ) (s : Sign) → r < 16 → shiftedRegister form (record { reg = r; «shift_by» = By.ByAmount 0; «bs_op» = Shift.LSL; added = s }) ≡ spell (shiftPieces form r)
 unfolding shiftedRegister shiftBy byAmount
-register-text r s h = rw (shift-alone r h) (append-nil (regString r))
+register-text form r s h = rw (shift-alone form r h) (append-nil (regString r))
 
 module _ (form : Form) (pc : ℕ) {c i p u w l k rn rd hi lo : ℕ} (f : HalfFields c i p u w l k rn rd hi lo) where
   abbrev raw : ℕ
@@ -61,7 +61,7 @@ module _ (form : Form) (pc : ℕ) {c i p u w l k rn rd hi lo : ℕ} (f : HalfFie
       let r = half-read f in
       let n : hi * 2 ^ 4 + lo ≡ lo = omega arith in
       let s : ShiftedRegister = record { reg = lo; «shift_by» = By.ByAmount 0; «bs_op» = Shift.LSL; added = addedOf raw } in
-      rw (r .10, n) (register-spelled form pc raw (r .2) (r .3) (r .4) (r .7) lo s refl (register-text lo (addedOf raw) (f .hlo)))
+      rw (r .10, n) (register-spelled form pc raw (r .2) (r .3) (r .4) (r .7) lo s refl (register-text form lo (addedOf raw) (f .hlo)))
 
   half-text : (by : Bool) (o : BarrelShifterValue) → Spelled by o →
       fmtHalfword form pc raw o ≡ spell (transferPieces (halfStem l k ++ condText c) p rn rd (offsetLead form by u) (offset form pc by p u w rn (hi * 2 ^ 4 + lo)))

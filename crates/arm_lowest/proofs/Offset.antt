@@ -17,7 +17,7 @@ use Rattle.arm7tdmi.specs.declared.alu.BarrelShifterValue.{BarrelShifterValue}
 use Rattle.arm7tdmi.specs.declared.alu.ShiftedRegister.{ShiftedRegister}
 use Rattle.arm_operand.specs.Operand.{benchOffset, comment, commented, fmtRnOffset, immediateOffset, indexed, magnitude, offsetText, sheetOffset, shiftedRegister, signText, signedRegister, valueComment}
 use Rattle.arm_lowest.proofs.Heads.{pick}
-use Rattle.arm_lowest.proofs.Operand.{shift-first, shift-good, shiftPieces, shifted-back}
+use Rattle.arm_lowest.proofs.Operand.{shift-first, shift-good, shift-plain, shift-there, shiftPieces, shifted-back}
 use Rattle.arm_candidate.specs.CandidateOperand.{isNumber, shiftedOf}
 use Rattle.reading.specs.Parts.{flag, regIn}
 use Rattle.arm_candidate.specs.CandidateTransfer.{addedIn, baseIn, indexedIn, isAdded, registerAdded, sizeIn, sizeOf}
@@ -33,16 +33,6 @@ use Rattle.text.specs.Digits.{dec, value}
 use Rattle.text.specs.Text.{text}
 use Rattle.text.specs.Word.{all, fromWord, has, isGap, isWord, word}
 use Rattle.arm7tdmi.specs.declared.alu.BarrelShifterValue.the-variants as Value
-
--- ---- a shifted register among other pieces
-shift-there : (n : ℕ) → some (shiftPieces n) ≡ true
-shift-there n = by-test (bit n 4) (λ e. rw e) (λ e. by-test (eqb (bitRange n 5 7 * 32 + bitRange n 7 12) 0) (λ z. rw (e, z)) (λ z. rw (e, z)))
-
--- it has none of the marks that stand about it
-shift-plain : (y n : ℕ) → has y (text ", ") ≡ false → has y (text " ") ≡ false → has y (text " #") ≡ false → gapsHave y (shiftPieces n) ≡ false
-shift-plain y n a b c =
-    by-test (bit n 4) (λ e. rw (e, a, b))
-    (λ e. by-test (eqb (bitRange n 5 7 * 32 + bitRange n 7 12) 0) (λ z. rw (e, z)) (λ z. rw (e, z, a, c)))
 
 -- ---- the texts of an offset
 -- between Rn and the offset, and behind it
@@ -80,7 +70,7 @@ offsetLead form false u = cond (not (eqb u 1)) (text "-") []
 
 abbrev pub offset : Form → ℕ → Bool → ℕ → ℕ → ℕ → ℕ → ℕ → Pieces
 offset form pc true p u w rn n = piece (dec (size form u n)) (close p w ++ text "\t; ") (last (commented form pc rn (signed u n)))
-offset form pc false p u w rn n = cond (eqb p 1) (ended (shiftPieces n) (close p w)) (shiftPieces n)
+offset form pc false p u w rn n = cond (eqb p 1) (ended (shiftPieces form n) (close p w)) (shiftPieces form n)
 
 -- the line of a transfer: the mnemonic, Rd, Rn, the offset's lead and its pieces
 abbrev pub transferPieces : List ℕ → ℕ → ℕ → ℕ → List ℕ → Pieces → Pieces
@@ -118,10 +108,10 @@ module _ (form : Form) (pc raw : ℕ) {p u w rn : ℕ} (ep : bitRange raw 24 25 
   unfolding signText addedOf
   sign-is = by-test (eqb u 1) (λ e. rw (eu, e)) (λ e. rw (eu, e))
 
-  closed : (n : ℕ) → spell (offset form pc false p u w rn n) ≡ spell (shiftPieces n) ++ close p w
-  closed n = by-test (eqb p 1) (λ e. rw e (ended-spelled (shiftPieces n) (closing w) (shift-there n))) (λ e. rw (e, append-nil))
+  closed : (n : ℕ) → spell (offset form pc false p u w rn n) ≡ spell (shiftPieces form n) ++ close p w
+  closed n = by-test (eqb p 1) (λ e. rw e (ended-spelled (shiftPieces form n) (closing w) (shift-there form n))) (λ e. rw (e, append-nil))
 
-  pub register-spelled : (n : ℕ) (s : ShiftedRegister) → s .added ≡ addedOf raw → shiftedRegister s ≡ spell (shiftPieces n) → Spelled false n (Value.ShiftedRegister s)
+  pub register-spelled : (n : ℕ) (s : ShiftedRegister) → s .added ≡ addedOf raw → shiftedRegister form s ≡ spell (shiftPieces form n) → Spelled false n (Value.ShiftedRegister s)
   unfolding fmtRnOffset offsetText comment signedRegister regAt
   register-spelled n s a q =
       let o = Value.ShiftedRegister s in
@@ -188,16 +178,16 @@ number-seen form pc p u w rn n =
 register-seen : (form : Form) (pc p u w rn n : ℕ) → Seen (negative form false u) (eqb p 1 && eqb w 1) (offsetLead form false u) (offset form pc false p u w rn n)
 unfolding isWord has
 register-seen form pc p u w rn n =
-    let t = shift-there n in
-    let a = shift-good n in
-    let b = shift-plain 33 n refl refl refl in
-    let c = shift-plain 45 n refl refl refl in
+    let t = shift-there form n in
+    let a = shift-good form n in
+    let b = shift-plain form 33 n refl refl refl in
+    let c = shift-plain form 45 n refl refl refl in
     record {
       before = by-test (eqb u 1) (λ e. rw e) (λ e. rw e);
-      whole = by-test (eqb p 1) (λ e. rw e (ended-good (shiftPieces n) (closing w) a (by-test (eqb w 1) (λ f. rw f) (λ f. rw f)))) (λ e. rw (e, a));
-      bang-in = by-test (eqb p 1) (λ e. rw (e, ended-gaps 33 (shiftPieces n) (closing w) t, b) (by-test (eqb w 1) (λ f. rw f) (λ f. rw f))) (λ e. rw (e, b));
+      whole = by-test (eqb p 1) (λ e. rw e (ended-good (shiftPieces form n) (closing w) a (by-test (eqb w 1) (λ f. rw f) (λ f. rw f)))) (λ e. rw (e, a));
+      bang-in = by-test (eqb p 1) (λ e. rw (e, ended-gaps 33 (shiftPieces form n) (closing w) t, b) (by-test (eqb w 1) (λ f. rw f) (λ f. rw f))) (λ e. rw (e, b));
       bang-out = by-test (eqb u 1) (λ e. rw e) (λ e. rw e);
-      minus-in = by-test (eqb p 1) (λ e. rw (e, ended-gaps 45 (shiftPieces n) (closing w) t, c) (by-test (eqb w 1) (λ f. rw f) (λ f. rw f))) (λ e. rw (e, c));
+      minus-in = by-test (eqb p 1) (λ e. rw (e, ended-gaps 45 (shiftPieces form n) (closing w) t, c) (by-test (eqb w 1) (λ f. rw f) (λ f. rw f))) (λ e. rw (e, c));
       minus-out = by-test (eqb u 1) (λ e. rw e) (λ e. rw e);
     }
 
@@ -265,7 +255,7 @@ module _ (form : Form) (pc : ℕ) (h : List ℕ) (p u w rn rd n : ℕ) (hh : wor
   number-size z = rw (number-value, minus-said true) (sized form z u n hu hx .sized)
 
   register-first : firstOf (offset form pc false p u w rn n) ≡ regString (bitRange n 0 4)
-  register-first = by-test (eqb p 1) (λ e. rw e (ended-first 0 (shiftPieces n) (closing w) ∙ shift-first n)) (λ e. rw e (shift-first n))
+  register-first = by-test (eqb p 1) (λ e. rw e (ended-first 0 (shiftPieces form n) (closing w) ∙ shift-first form n)) (λ e. rw e (shift-first form n))
 
   register-word : word (fromWord 3 (said false)) ≡ regString (bitRange n 0 4)
   register-word = rw (at-offset false) (first-word (offset form pc false p u w rn n) (offset-seen form pc false p u w rn n .whole) ∙ register-first)
@@ -286,8 +276,8 @@ module _ (form : Form) (pc : ℕ) (h : List ℕ) (p u w rn rd n : ℕ) (hh : wor
   register-shifted =
       rw (at-offset false)
       (by-test (eqb p 1)
-      (λ e. rw e (shifted-ended (shiftPieces n) (closing w) (shift-good n) (by-test (eqb w 1) (λ f. rw f) (λ f. rw f)) ∙ shifted-back n hx))
-      (λ e. rw e (shifted-back n hx)))
+      (λ e. rw e (shifted-ended (shiftPieces form n) (closing w) (shift-good form n) (by-test (eqb w 1) (λ f. rw f) (λ f. rw f)) ∙ shifted-back form n hx))
+      (λ e. rw e (shifted-back form n hx)))
 
 -- ---- what a line does not show
 pub number-same : (form : Form) (z : Bool) (pc p u w rn n : ℕ) → let v = shownU form z u n in

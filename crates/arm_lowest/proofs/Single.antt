@@ -51,7 +51,7 @@ module _ (form : Form) (pc : ℕ) {c i p u b w l rn rd n : ℕ} (f : LdrFields c
       (λ e. let y = eqb-false i 0 e in
       let s : ShiftedRegister = record { reg = bitRange raw 0 4; «shift_by» = shiftRegBy raw; «bs_op» = bsOp raw; added = addedOf raw } in
       let o : ldrStrOffset raw ≡ Value.ShiftedRegister s = rw (r .1, eq-eqb i 1 (omega arith)) in
-      rw (o, e) (register-spelled form pc raw (r .2) (r .3) (r .5) (r .7) n s refl (shift-spelled raw n (addedOf raw) (r .9))))
+      rw (o, e) (register-spelled form pc raw (r .2) (r .3) (r .5) (r .7) n s refl (shift-spelled form raw n (addedOf raw) (r .9))))
 
   ldr-spelled : fmtLdrStr form pc raw ≡ spell (ldrPieces form pc c i p u b w l rn rd n)
   unfolding fmtLdrStr either ifSet userMark condAt regAt
@@ -73,7 +73,7 @@ module _ (form : Form) (pc : ℕ) {c i p u b w l rn rd n : ℕ} (f : LdrFields c
       rw (y, ldr-u form u n, s .0, s .1))
       (λ e. let z = eqb-false i 0 e in
       let y : i ≡ 1 = omega arith in
-      rw (y, shift-same (shift-least n)))
+      rw (y, shift-same form (shift-least n)))
 
   least-word : armFormat form (ldrWord c i p u b w l rn rd n) ≡ A.SingleDataTransfer → let k = least i n in let v = ldrU form i u k in
       Least (LdrFields c i p v b w l rn rd k) form A.SingleDataTransfer (ldrWord c i p v b w l rn rd k) (ldrWord c i p u b w l rn rd n)

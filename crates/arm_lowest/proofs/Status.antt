@@ -78,11 +78,11 @@ module _ {c p rm : ℕ} (f : MsrFields c p rm) where
   abbrev msrPieces : Pieces
   msrPieces = piece (text "msr" ++ condText c) (text "\t" ++ (psr p ++ text ", ")) (last (regString rm))
 
-  msr-spelled : fmtMsr (msrWord c p rm) ≡ spell msrPieces
+  msr-spelled : (form : Form) → fmtMsr form (msrWord c p rm) ≡ spell msrPieces
   unfolding fmtMsr either condAt
-  msr-spelled =
+  msr-spelled form =
       let r = msr-read f in
-      let o : fmtOperand2 (operand2 (msrWord c p rm)) ≡ regString rm = op-spelled (msrWord c p rm) 0 rm (r .3) (r .2) ∙ ap spell (shift-alone rm (f .hrm)) in
+      let o : fmtOperand2 form (operand2 (msrWord c p rm)) ≡ regString rm = op-spelled form (msrWord c p rm) 0 rm (r .3) (r .2) ∙ ap spell (shift-alone form rm (f .hrm)) in
       rw (r .0, r .1, o)
       (regroup (text "msr" ++ condText c) (text "\t" ∷ psr p ∷ text ", " ∷ regString rm ∷ []) ∙
       ap (λ (l : List ℕ). text "msr" ++ condText c ++ (text "\t" ++ l)) (sym (append-assoc (psr p) (text ", ") (regString rm))))
@@ -112,7 +112,7 @@ unfolding lineOf
 msr-law form pc = msr-words form (Law 6 msrCand form pc) (λ c p rm f e t q.
     let s = printed-line form A.MoveToStatus pc (msrWord c p rm) e t q in
     let hc = fifteen (msrWord c p rm) (msr-read f .0) (f .hc) (s .when refl) in
-    pieces-read (msrPieces f) (s .text ∙ msr-spelled f) (msr-good f hc) (msr-reads c hc) (exact (msr-back f hc form pc)))
+    pieces-read (msrPieces f) (s .text ∙ msr-spelled f form) (msr-good f hc) (msr-reads c hc) (exact (msr-back f hc form pc)))
 
 -- ---- msr to the flags: operand 2 as in data processing, and of an immediate the flags in a comment
 abbrev truth : ℕ → ℕ → List ℕ
@@ -126,25 +126,26 @@ abbrev valuePieces : ℕ → Pieces
 valuePieces v =
     piece (dec v) (text "\t; ") (piece (prefixed 1 v) (text "\t; N=") (piece (truth v 31) (text " Z=") (piece (truth v 30) (text " C=") (piece (truth v 29) (text " V=") (last (truth v 28))))))
 
-abbrev flagsOperand : ℕ → ℕ → Pieces
-flagsOperand i n = cond (eqb i 1) (valuePieces (immediateAt n)) (shiftPieces n)
+abbrev flagsOperand : Form → ℕ → ℕ → Pieces
+flagsOperand form i n = cond (eqb i 1) (valuePieces (immediateAt n)) (shiftPieces form n)
 
 flags-right : (v : ℕ) → flags v ≡ text "\t; N=" ++ (truth v 31 ++ (text " Z=" ++ (truth v 30 ++ (text " C=" ++ (truth v 29 ++ (text " V=" ++ truth v 28))))))
 unfolding flags flagText either
 flags-right v = regroup (text "\t; N=") (truth v 31 ∷ text " Z=" ∷ truth v 30 ∷ text " C=" ∷ truth v 29 ∷ text " V=" ∷ truth v 28 ∷ [])
 
-operand-good : (i n : ℕ) → good (flagsOperand i n) ≡ true
+operand-good : (form : Form) (i n : ℕ) → good (flagsOperand form i n) ≡ true
 unfolding isWord
-operand-good i n =
+operand-good form i n =
     by-test (eqb i 1)
     (λ e. rw (e, dec-wordy (immediateAt n), prefixed-wordy 1 (immediateAt n) (omega arith), truth-wordy (immediateAt n) 31, truth-wordy (immediateAt n) 30, truth-wordy (immediateAt n) 29, truth-wordy (immediateAt n) 28))
-    (λ e. rw e (shift-good n))
+    (λ e. rw e (shift-good form n))
 
-operand-spelled : (w i n : ℕ) → bitRange w 25 26 ≡ i → bitRange w 0 12 ≡ n → fmtOperand2 (operand2 w) ++ flagsComment (decodeRotatedImmediate (operand2 w)) ≡ lead i ++ spell (flagsOperand i n)
-operand-spelled w i n h e =
+operand-spelled : (form : Form) (w i n : ℕ) → bitRange w 25 26 ≡ i → bitRange w 0 12 ≡ n →
+    fmtOperand2 form (operand2 w) ++ flagsComment (decodeRotatedImmediate (operand2 w)) ≡ lead i ++ spell (flagsOperand form i n)
+operand-spelled form w i n h e =
     by-test (eqb i 1)
-    (λ y. rw (op-spelled w i n h e, comment y, y) (ap (λ (l : List ℕ). text "#" ++ l) (append-assoc (dec (immediateAt n)) (text "\t; " ++ prefixed 1 (immediateAt n)) (flags (immediateAt n)) ∙ rw (flags-right (immediateAt n)))))
-    (λ y. rw (op-spelled w i n h e, none y, y) (append-nil (spell (shiftPieces n))))
+    (λ y. rw (op-spelled form w i n h e, comment y, y) (ap (λ (l : List ℕ). text "#" ++ l) (append-assoc (dec (immediateAt n)) (text "\t; " ++ prefixed 1 (immediateAt n)) (flags (immediateAt n)) ∙ rw (flags-right (immediateAt n)))))
+    (λ y. rw (op-spelled form w i n h e, none y, y) (append-nil (spell (shiftPieces form n))))
   where
     set : bit w 25 ≡ eqb i 1
     set = ap (λ (x : ℕ). eqb x 1) h
@@ -155,44 +156,44 @@ operand-spelled w i n h e =
     none : eqb i 1 ≡ false → flagsComment (decodeRotatedImmediate (operand2 w)) ≡ []
     none y = unfold flagsComment decodeRotatedImmediate operand2 in rw (set, y)
 
-abbrev flagsPieces : ℕ → ℕ → ℕ → ℕ → Pieces
-flagsPieces c p i n = piece (text "msr" ++ condText c) (text "\t" ++ (psr p ++ text "_")) (piece (text "f") (text ", " ++ lead i) (flagsOperand i n))
+abbrev flagsPieces : Form → ℕ → ℕ → ℕ → ℕ → Pieces
+flagsPieces form c p i n = piece (text "msr" ++ condText c) (text "\t" ++ (psr p ++ text "_")) (piece (text "f") (text ", " ++ lead i) (flagsOperand form i n))
 
-flags-spelled : {c p i n : ℕ} → FlagsFields c p i n → fmtMsrFlags (flagsWord c p i n) ≡ spell (flagsPieces c p i n)
+flags-spelled : (form : Form) {c p i n : ℕ} → FlagsFields c p i n → fmtMsrFlags form (flagsWord c p i n) ≡ spell (flagsPieces form c p i n)
 unfolding fmtMsrFlags either condAt
-flags-spelled {c} {p} {i} {n} f =
+flags-spelled form {c} {p} {i} {n} f =
     let r = flags-read f in
-    let o = operand-spelled (flagsWord c p i n) i n (r .2) (r .3) in
+    let o = operand-spelled form (flagsWord c p i n) i n (r .2) (r .3) in
     by-test (eqb p 1)
     (λ e. rw (r .0, r .1, e)
-    (regroup (text "msr" ++ condText c) (text "\t" ∷ text "SPSR_f" ∷ text ", " ∷ fmtOperand2 (operand2 (flagsWord c p i n)) ∷ flagsComment (decodeRotatedImmediate (operand2 (flagsWord c p i n))) ∷ [])
+    (regroup (text "msr" ++ condText c) (text "\t" ∷ text "SPSR_f" ∷ text ", " ∷ fmtOperand2 form (operand2 (flagsWord c p i n)) ∷ flagsComment (decodeRotatedImmediate (operand2 (flagsWord c p i n))) ∷ [])
     ∙ rw o))
     (λ e. rw (r .0, r .1, e)
-    (regroup (text "msr" ++ condText c) (text "\t" ∷ text "CPSR_f" ∷ text ", " ∷ fmtOperand2 (operand2 (flagsWord c p i n)) ∷ flagsComment (decodeRotatedImmediate (operand2 (flagsWord c p i n))) ∷ [])
+    (regroup (text "msr" ++ condText c) (text "\t" ∷ text "CPSR_f" ∷ text ", " ∷ fmtOperand2 form (operand2 (flagsWord c p i n)) ∷ flagsComment (decodeRotatedImmediate (operand2 (flagsWord c p i n))) ∷ [])
     ∙ rw o))
 
-module _ {c p i n : ℕ} (f : FlagsFields c p i n) where
+module _ (form : Form) {c p i n : ℕ} (f : FlagsFields c p i n) where
   abbrev fps : Pieces
-  fps = flagsPieces c p i n
+  fps = flagsPieces form c p i n
 
-  flags-same : flagsPieces c p i (opLeast i n) ≡ fps
+  flags-same : flagsPieces form c p i (opLeast i n) ≡ fps
   flags-same =
       by-test (eqb i 1)
       (λ e. rw (e, immediate-least n (f .hn) .value))
-      (λ e. rw (e, shift-same (shift-least n)))
+      (λ e. rw (e, shift-same form (shift-least n)))
 
-  flags-operand : operandOf (spell (flagsOperand i n)) ≡ i * 2 ^ 25 + opLeast i n
+  flags-operand : operandOf (spell (flagsOperand form i n)) ≡ i * 2 ^ 25 + opLeast i n
   flags-operand =
       by-test (eqb i 1)
-      (λ e. let y = eqb-true i 1 e in rw (e, number-back (valuePieces (immediateAt n)) n (rw e at (operand-good i n)) refl, y) (omega arith))
-      (λ e. let z = eqb-false i 1 e in let y : i ≡ 0 = omega arith in rw (e, register-back n (f .hn), y) (omega arith))
+      (λ e. let y = eqb-true i 1 e in rw (e, number-back (valuePieces (immediateAt n)) n (rw e at (operand-good form i n)) refl, y) (omega arith))
+      (λ e. let z = eqb-false i 1 e in let y : i ≡ 0 = omega arith in rw (e, register-back form n (f .hn), y) (omega arith))
 
   module _ (hc : c < 15) where
     flags-good : good fps ≡ true
     unfolding isWord
     flags-good =
         let h = msr-reads c hc .one-word in
-        let o = operand-good i n in
+        let o = operand-good form i n in
         by-test (eqb p 1) (λ e. by-test (eqb i 1) (λ g. rw (h, o, e, g)) (λ g. rw (h, o, e, g))) (λ e. by-test (eqb i 1) (λ g. rw (h, o, e, g)) (λ g. rw (h, o, e, g)))
 
     flags-psr : flag (eqb (getD (behind (spell fps)) 1 0) 83) ≡ p
@@ -206,15 +207,15 @@ module _ {c p i n : ℕ} (f : FlagsFields c p i n) where
     unfolding has isWord
     flags-alone = let h = has-gaps 95 fps refl flags-good in by-test (eqb p 1) (λ e. rw (h, e)) (λ e. rw (h, e))
 
-    flags-back : (form : Form) (pc : ℕ) → msrCand form pc 0 c (spell fps) ≡ flagsWord c p i (opLeast i n)
+    flags-back : (pc : ℕ) → msrCand form pc 0 c (spell fps) ≡ flagsWord c p i (opLeast i n)
     unfolding msrCand
-    flags-back form pc = rw (flags-psr, flags-alone, from-nth 2 fps flags-good .0, flags-operand) (omega arith)
+    flags-back pc = rw (flags-psr, flags-alone, from-nth 2 fps flags-good .0, flags-operand) (omega arith)
 
 pub flags-law : (form : Form) (pc : ℕ) → Words form A.MoveToFlags (Law 6 msrCand form pc)
 unfolding lineOf
 flags-law form pc = flags-words form (Law 6 msrCand form pc) (λ c p i n f e t q.
     let s = printed-line form A.MoveToFlags pc (flagsWord c p i n) e t q in
     let hc = fifteen (flagsWord c p i n) (flags-read f .0) (f .hc) (s .when refl) in
-    let l = flags-least f form (opLeast i n) (op-least i n (f .hi) (f .hn) .low) in
-    pieces-read (flagsPieces c p i n) (s .text ∙ flags-spelled f) (flags-good f hc) (msr-reads c hc)
-    (rw (flags-back f hc form pc) (least-found pc t e q l (λ z. flags-read (l .fields) .0 ∙ sym (flags-read f .0)) refl (flags-spelled (l .fields) ∙ ap spell (flags-same f) ∙ sym (flags-spelled f)))))
+    let l = flags-least f form (opLeast i n) (op-least form i n (f .hi) (f .hn) .low) in
+    pieces-read (flagsPieces form c p i n) (s .text ∙ flags-spelled form f) (flags-good form f hc) (msr-reads c hc)
+    (rw (flags-back form f hc pc) (least-found pc t e q l (λ z. flags-read (l .fields) .0 ∙ sym (flags-read f .0)) refl (flags-spelled form (l .fields) ∙ ap spell (flags-same form f) ∙ sym (flags-spelled form f)))))

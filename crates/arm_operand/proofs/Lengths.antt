@@ -5,17 +5,19 @@ use native.Mathlib.Omega.{arith}
 use lib.Dec.{eqb}
 use Rattle.lines.proofs.Address.{address-within}
 use Rattle.lines.proofs.Lengths.{ifSet-within, regAt-within, either-within}
-use Rattle.arm7tdmi.specs.Alu.{decodeRotatedImmediate}
+use Rattle.arm7tdmi.specs.Alu.{amountOf, decodeRotatedImmediate}
 use Rattle.arm.specs.Fields.{pcRelative}
 use Rattle.arm7tdmi.specs.Names.{regNames, regString}
 use Rattle.arm7tdmi.specs.declared.Form.{Form}
 use Rattle.arm7tdmi.specs.declared.Form.the-variants.{Bench, Sheet}
+use Rattle.arm7tdmi.specs.declared.alu.Amount.the-variants.{Places, Rrx}
+use Rattle.arm7tdmi.specs.declared.alu.Amount.{Amount}
 use Rattle.arm7tdmi.specs.declared.alu.BarrelShiftOpCode.{BarrelShiftOpCode}
 use Rattle.arm7tdmi.specs.declared.alu.BarrelShifterValue.{BarrelShifterValue}
 use Rattle.arm7tdmi.specs.declared.alu.ShiftRegisterBy.{ShiftRegisterBy}
 use Rattle.arm7tdmi.specs.declared.alu.ShiftedRegister.{ShiftedRegister}
 use Rattle.arm7tdmi.specs.declared.alu.Sign.{Sign}
-use Rattle.arm_operand.specs.Operand.{benchOffset, byAmount, byRegister, comment, decodedText, fmtOperand2, fmtRnOffset, immediate, immediateOffset, indexed, isLsl0, magnitude, offsetText, sheetOffset, shiftBy, shiftText, shiftedRegister, signText, signedRegister, valueComment, addedRegister, flagText, flags, flagsComment, rdText}
+use Rattle.arm_operand.specs.Operand.{amountText, benchOffset, byAmount, byRegister, comment, decodedText, fmtOperand2, fmtRnOffset, immediate, immediateOffset, indexed, isLsl0, magnitude, offsetText, placesText, sheetOffset, shiftBy, shiftText, shiftedRegister, signText, signedRegister, valueComment, addedRegister, flagText, flags, flagsComment, rdText}
 use Rattle.common.specs.Bits.{bit, bitRange}
 use Rattle.text.proofs.Within.{Within, _&_, dec-within, exactly, loosely, none, of-two, prefixed-within, short-entry, or-none}
 use Rattle.text.specs.Text.{text}
@@ -39,20 +41,23 @@ named : (n : ℕ) → Within 0 3 (regString n)
 unfolding regString regNames
 named n = short-entry 3 regNames refl n
 
-by-amount : (op : BarrelShiftOpCode) (n : ℕ) → Within 0 17 (byAmount op n)
+amount : (op : BarrelShiftOpCode) (a : Amount) → Within 0 17 (amountText op a)
+unfolding amountText placesText
+amount op (Places n) = loosely (exactly (text ", ") & shift op & exactly (text " #") & dec-within n) (omega arith) (omega arith)
+amount op Rrx = loosely (exactly (text ", rrx")) (omega arith) (omega arith)
+
+by-amount : (form : Form) (op : BarrelShiftOpCode) (n : ℕ) → Within 0 17 (byAmount form op n)
 unfolding byAmount
-by-amount op n =
-    of-two (isLsl0 op n) (none 17)
-    (loosely (exactly (text ", ") & shift op & exactly (text " #") & dec-within n) (omega arith) (omega arith))
+by-amount form op n = of-two (isLsl0 op n) (none 17) (amount op (amountOf form op n))
 
-by : (op : BarrelShiftOpCode) (b : ShiftRegisterBy) → Within 0 17 (shiftBy op b)
+by : (form : Form) (op : BarrelShiftOpCode) (b : ShiftRegisterBy) → Within 0 17 (shiftBy form op b)
 unfolding shiftBy byRegister
-by op (By.ByAmount n) = by-amount op n
-by op (By.ByRegister rs) = loosely (exactly (text ", ") & shift op & exactly (text " ") & named rs) (omega arith) (omega arith)
+by form op (By.ByAmount n) = by-amount form op n
+by form op (By.ByRegister rs) = loosely (exactly (text ", ") & shift op & exactly (text " ") & named rs) (omega arith) (omega arith)
 
-shifted-within : (s : ShiftedRegister) → Within 0 20 (shiftedRegister s)
+shifted-within : (form : Form) (s : ShiftedRegister) → Within 0 20 (shiftedRegister form s)
 unfolding shiftedRegister
-shifted-within s = named (s .reg) & by (s .«bs_op») (s .«shift_by»)
+shifted-within form s = named (s .reg) & by form (s .«bs_op») (s .«shift_by»)
 
 decoded : (d : Decoded) → Within 0 24 (decodedText d)
 unfolding decodedText immediate
@@ -60,11 +65,11 @@ decoded D.Nothing = none 24
 decoded (D.Value v) =
     loosely (exactly (text "#") & dec-within v & exactly (text "\t; ") & prefixed-within 1 v (omega arith)) (omega arith) (omega arith)
 
-pub operand : (o : BarrelShifterValue) → Within 0 24 (fmtOperand2 o)
+pub operand : (form : Form) (o : BarrelShifterValue) → Within 0 24 (fmtOperand2 form o)
 unfolding fmtOperand2
-operand (Value.ImmediateValue v) = none 24
-operand (Value.RotatedImmediate v n) = decoded (decodeRotatedImmediate (Value.RotatedImmediate v n))
-operand (Value.ShiftedRegister s) = loosely (shifted-within s) (omega arith) (omega arith)
+operand form (Value.ImmediateValue v) = none 24
+operand form (Value.RotatedImmediate v n) = decoded (decodeRotatedImmediate (Value.RotatedImmediate v n))
+operand form (Value.ShiftedRegister s) = loosely (shifted-within form s) (omega arith) (omega arith)
 
 -- ---- offsets
 bench-offset : (v : ℕ) → Within 2 11 (benchOffset v)
@@ -88,7 +93,7 @@ offset : (form : Form) (raw : ℕ) (o : BarrelShifterValue) → Within 0 21 (off
 unfolding offsetText signedRegister
 offset form raw (Value.ImmediateValue v) = loosely (immediate-offset form raw v) (omega arith) (omega arith)
 offset form raw (Value.RotatedImmediate v n) = none 21
-offset form raw (Value.ShiftedRegister s) = sign (s .added) & shifted-within s
+offset form raw (Value.ShiftedRegister s) = sign (s .added) & shifted-within form s
 
 indexed-within : (form : Form) (raw : ℕ) (o : BarrelShifterValue) → Within 0 25 (indexed form raw o)
 unfolding indexed

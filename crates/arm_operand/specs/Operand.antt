@@ -1,5 +1,5 @@
 -- The operands of ARM lines that are more than a field, by the Rust's arm/disass.rs, with its formats beside them. The form stands where the sheet line
--- differs: S1 and S4 of document 01, and S9 where an address is shown. Assumes nothing.
+-- differs: S1 and S4 of document 01, S9 where an address is shown, and S10 where an amount is. Assumes nothing.
 use mathlib.Core.Bool.{Bool, false, cond, true}
 use mathlib.Core.List.{List, [], _++_}
 use Prim.Native.Nat.{ℕ, _-_, _%_, _^_}
@@ -10,12 +10,14 @@ use Rattle.text.specs.Digits.{dec, prefixed}
 use Rattle.arm7tdmi.specs.Names.{regString}
 use Rattle.lines.specs.Address.{address}
 use Rattle.lines.specs.Pieces.{regAt, ifSet, either}
-use Rattle.arm7tdmi.specs.Alu.{decodeRotatedImmediate}
+use Rattle.arm7tdmi.specs.Alu.{amountOf, decodeRotatedImmediate}
 use Rattle.arm.specs.Fields.{pcRelative}
 use Rattle.arm7tdmi.specs.declared.Form.{Form}
 use Rattle.arm7tdmi.specs.declared.Form.the-variants.{Bench, Sheet}
 use Rattle.arm7tdmi.specs.declared.alu.BarrelShiftOpCode.{BarrelShiftOpCode}
 use Rattle.arm7tdmi.specs.declared.alu.BarrelShiftOpCode.the-variants as Shift
+use Rattle.arm7tdmi.specs.declared.alu.Amount.{Amount}
+use Rattle.arm7tdmi.specs.declared.alu.Amount.the-variants.{Places, Rrx}
 use Rattle.arm7tdmi.specs.declared.alu.ShiftRegisterBy.{ShiftRegisterBy}
 use Rattle.arm7tdmi.specs.declared.alu.ShiftRegisterBy.the-variants as By
 use Rattle.arm7tdmi.specs.declared.alu.Sign.{Sign}
@@ -40,18 +42,26 @@ isLsl0 Shift.LSR n = false
 isLsl0 Shift.ASR n = false
 isLsl0 Shift.ROR n = false
 
-unfoldable pub byAmount : BarrelShiftOpCode → ℕ → List ℕ
-byAmount op n = cond (isLsl0 op n) [] (text ", " ++ shiftText op ++ text " #" ++ dec n)
+unfoldable pub placesText : BarrelShiftOpCode → ℕ → List ℕ
+placesText op n = text ", " ++ shiftText op ++ text " #" ++ dec n
+
+-- S10: "`, rrx` after the register"
+unfoldable pub amountText : BarrelShiftOpCode → Amount → List ℕ
+amountText op (Places n) = placesText op n
+amountText op Rrx = text ", rrx"
+
+unfoldable pub byAmount : Form → BarrelShiftOpCode → ℕ → List ℕ
+byAmount form op n = cond (isLsl0 op n) [] (amountText op (amountOf form op n))
 
 unfoldable pub byRegister : BarrelShiftOpCode → ℕ → List ℕ
 byRegister op rs = text ", " ++ shiftText op ++ text " " ++ regString rs
 
-unfoldable pub shiftBy : BarrelShiftOpCode → ShiftRegisterBy → List ℕ
-shiftBy op (By.ByAmount n) = byAmount op n
-shiftBy op (By.ByRegister rs) = byRegister op rs
+unfoldable pub shiftBy : Form → BarrelShiftOpCode → ShiftRegisterBy → List ℕ
+shiftBy form op (By.ByAmount n) = byAmount form op n
+shiftBy form op (By.ByRegister rs) = byRegister op rs
 
-unfoldable pub shiftedRegister : ShiftedRegister → List ℕ
-shiftedRegister s = regString (s .reg) ++ shiftBy (s .«bs_op») (s .«shift_by»)
+unfoldable pub shiftedRegister : Form → ShiftedRegister → List ℕ
+shiftedRegister form s = regString (s .reg) ++ shiftBy form (s .«bs_op») (s .«shift_by»)
 
 -- ---- fmt_operand2: "#{}\t; {:#x}", or the shifted register
 unfoldable pub immediate : ℕ → List ℕ
@@ -61,10 +71,10 @@ unfoldable pub decodedText : Decoded → List ℕ
 decodedText D.Nothing = []
 decodedText (D.Value v) = immediate v
 
-unfoldable pub fmtOperand2 : BarrelShifterValue → List ℕ
-fmtOperand2 (Value.ImmediateValue v) = []
-fmtOperand2 (Value.RotatedImmediate v n) = decodedText (decodeRotatedImmediate (Value.RotatedImmediate v n))
-fmtOperand2 (Value.ShiftedRegister s) = shiftedRegister s
+unfoldable pub fmtOperand2 : Form → BarrelShifterValue → List ℕ
+fmtOperand2 form (Value.ImmediateValue v) = []
+fmtOperand2 form (Value.RotatedImmediate v n) = decodedText (decodeRotatedImmediate (Value.RotatedImmediate v n))
+fmtOperand2 form (Value.ShiftedRegister s) = shiftedRegister form s
 
 -- ---- fmt_rn_offset: "[{Rn}", then ", {ofs}]{!}" or "], {ofs}", then the comment
 -- bench: "An immediate offset with U (bit 23) clear prints as unsigned 32-bit decimal".
@@ -88,13 +98,13 @@ signText S.Added = []
 signText S.Subtracted = text "-"
 signText S.Unsaid = []
 
-unfoldable pub signedRegister : ShiftedRegister → List ℕ
-signedRegister s = signText (s .added) ++ shiftedRegister s
+unfoldable pub signedRegister : Form → ShiftedRegister → List ℕ
+signedRegister form s = signText (s .added) ++ shiftedRegister form s
 
 unfoldable pub offsetText : Form → ℕ → BarrelShifterValue → List ℕ
 offsetText form raw (Value.ImmediateValue v) = immediateOffset form raw v
 offsetText form raw (Value.RotatedImmediate v n) = []
-offsetText form raw (Value.ShiftedRegister s) = signedRegister s
+offsetText form raw (Value.ShiftedRegister s) = signedRegister form s
 
 unfoldable pub indexed : Form → ℕ → BarrelShifterValue → List ℕ
 indexed form raw o =

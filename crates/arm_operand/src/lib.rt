@@ -1,9 +1,10 @@
 // Operands of ARM lines that are more than a field.
 ghost use mathlib.Core.Path.{_≡_};
 ghost use Rattle.text.specs.Wrote.{Wrote};
-ghost use Rattle.arm_operand.specs.Operand.{shiftText, isLsl0, byAmount, byRegister, shiftBy, shiftedRegister, immediate, decodedText, fmtOperand2, benchOffset, magnitude, sheetOffset, immediateOffset, signText, signedRegister, offsetText, indexed, valueComment, comment, fmtRnOffset, rdText, flagText, flags, flagsComment, addedRegister};
+ghost use Rattle.arm_operand.specs.Operand.{shiftText, isLsl0, placesText, amountText, byAmount, byRegister, shiftBy, shiftedRegister, immediate, decodedText, fmtOperand2, benchOffset, magnitude, sheetOffset, immediateOffset, signText, signedRegister, offsetText, indexed, valueComment, comment, fmtRnOffset, rdText, flagText, flags, flagsComment, addedRegister};
 use arm::pc_relative;
 use arm7tdmi::Form;
+use arm7tdmi::alu::Amount;
 use arm7tdmi::alu::BarrelShiftOpCode;
 use arm7tdmi::alu::BarrelShifterValue;
 use arm7tdmi::alu::Decoded;
@@ -45,16 +46,31 @@ fn is_lsl0(op: BarrelShiftOpCode, n: u32) -> bool
     }
 }
 
-fn put_by_amount(buf: &mut [u8], at: usize, op: BarrelShiftOpCode, n: u32) -> usize
-    ensures { λ r. ⌜ Wrote (now (buf .entry)) at (byAmount op n) (now (buf .exit)) r ⌝ }
+fn put_places(buf: &mut [u8], at: usize, op: BarrelShiftOpCode, n: u32) -> usize
+    ensures { λ r. ⌜ Wrote (now (buf .entry)) at (placesText op n) (now (buf .exit)) r ⌝ }
 {
-    if is_lsl0(op, n) {
-        return at;
-    }
     let at = put_text(buf, at, b", ");
     let at = put_shift(buf, at, op);
     let at = put_text(buf, at, b" #");
     put_dec(buf, at, n)
+}
+
+fn put_amount(buf: &mut [u8], at: usize, op: BarrelShiftOpCode, amount: Amount) -> usize
+    ensures { λ r. ⌜ Wrote (now (buf .entry)) at (amountText op amount) (now (buf .exit)) r ⌝ }
+{
+    match amount {
+        Amount::Places(n) => put_places(buf, at, op, n),
+        Amount::Rrx => put_text(buf, at, b", rrx"),
+    }
+}
+
+fn put_by_amount(buf: &mut [u8], at: usize, form: Form, op: BarrelShiftOpCode, n: u32) -> usize
+    ensures { λ r. ⌜ Wrote (now (buf .entry)) at (byAmount form op n) (now (buf .exit)) r ⌝ }
+{
+    if is_lsl0(op, n) {
+        return at;
+    }
+    put_amount(buf, at, op, op.amount(form, n))
 }
 
 fn put_by_register(buf: &mut [u8], at: usize, op: BarrelShiftOpCode, rs: u32) -> usize
@@ -66,24 +82,30 @@ fn put_by_register(buf: &mut [u8], at: usize, op: BarrelShiftOpCode, rs: u32) ->
     put_reg(buf, at, rs)
 }
 
-fn put_shift_by(buf: &mut [u8], at: usize, op: BarrelShiftOpCode, by: ShiftRegisterBy) -> usize
-    ensures { λ r. ⌜ Wrote (now (buf .entry)) at (shiftBy op by) (now (buf .exit)) r ⌝ }
+fn put_shift_by(
+    buf: &mut [u8],
+    at: usize,
+    form: Form,
+    op: BarrelShiftOpCode,
+    by: ShiftRegisterBy,
+) -> usize
+    ensures { λ r. ⌜ Wrote (now (buf .entry)) at (shiftBy form op by) (now (buf .exit)) r ⌝ }
 {
     match by {
-        ShiftRegisterBy::ByAmount(n) => put_by_amount(buf, at, op, n),
+        ShiftRegisterBy::ByAmount(n) => put_by_amount(buf, at, form, op, n),
         ShiftRegisterBy::ByRegister(rs) => put_by_register(buf, at, op, rs),
     }
 }
 
 // A register and how it is shifted.
-fn put_shifted_register(buf: &mut [u8], at: usize, s: ShiftedRegister) -> usize
-    ensures { λ r. ⌜ Wrote (now (buf .entry)) at (shiftedRegister s) (now (buf .exit)) r ⌝ }
+fn put_shifted_register(buf: &mut [u8], at: usize, form: Form, s: ShiftedRegister) -> usize
+    ensures { λ r. ⌜ Wrote (now (buf .entry)) at (shiftedRegister form s) (now (buf .exit)) r ⌝ }
 {
     let reg = s.reg;
     let op = s.bs_op;
     let by = s.shift_by;
     let at = put_reg(buf, at, reg);
-    put_shift_by(buf, at, op, by)
+    put_shift_by(buf, at, form, op, by)
 }
 
 fn put_immediate(buf: &mut [u8], at: usize, v: u32) -> usize
@@ -105,15 +127,15 @@ fn put_decoded(buf: &mut [u8], at: usize, d: Decoded) -> usize
 }
 
 // Operand 2. The Rust panics on an immediate that is not rotated, which operand 2 never is.
-pub fn fmt_operand2(buf: &mut [u8], at: usize, operand: BarrelShifterValue) -> usize
-    ensures { λ r. ⌜ Wrote (now (buf .entry)) at (fmtOperand2 operand) (now (buf .exit)) r ⌝ }
+pub fn fmt_operand2(buf: &mut [u8], at: usize, form: Form, operand: BarrelShifterValue) -> usize
+    ensures { λ r. ⌜ Wrote (now (buf .entry)) at (fmtOperand2 form operand) (now (buf .exit)) r ⌝ }
 {
     match operand {
         BarrelShifterValue::ImmediateValue(_) => at,
         BarrelShifterValue::RotatedImmediate(_, _) => {
             put_decoded(buf, at, operand.decode_rotated_immediate())
         }
-        BarrelShifterValue::ShiftedRegister(s) => put_shifted_register(buf, at, s),
+        BarrelShifterValue::ShiftedRegister(s) => put_shifted_register(buf, at, form, s),
     }
 }
 
@@ -162,12 +184,12 @@ fn put_sign(buf: &mut [u8], at: usize, sign: Sign) -> usize
     }
 }
 
-fn put_signed_register(buf: &mut [u8], at: usize, s: ShiftedRegister) -> usize
-    ensures { λ r. ⌜ Wrote (now (buf .entry)) at (signedRegister s) (now (buf .exit)) r ⌝ }
+fn put_signed_register(buf: &mut [u8], at: usize, form: Form, s: ShiftedRegister) -> usize
+    ensures { λ r. ⌜ Wrote (now (buf .entry)) at (signedRegister form s) (now (buf .exit)) r ⌝ }
 {
     let added = s.added;
     let at = put_sign(buf, at, added);
-    put_shifted_register(buf, at, s)
+    put_shifted_register(buf, at, form, s)
 }
 
 fn put_offset(buf: &mut [u8], at: usize, form: Form, raw: u32, offset: BarrelShifterValue) -> usize
@@ -176,7 +198,7 @@ fn put_offset(buf: &mut [u8], at: usize, form: Form, raw: u32, offset: BarrelShi
     match offset {
         BarrelShifterValue::ImmediateValue(v) => put_immediate_offset(buf, at, form, raw, v),
         BarrelShifterValue::RotatedImmediate(_, _) => at,
-        BarrelShifterValue::ShiftedRegister(s) => put_signed_register(buf, at, s),
+        BarrelShifterValue::ShiftedRegister(s) => put_signed_register(buf, at, form, s),
     }
 }
 

@@ -1,3 +1,4 @@
+pub mod Amount
 pub mod Demand
 pub mod Pieces
 pub mod RegisterList

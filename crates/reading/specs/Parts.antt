@@ -1,5 +1,5 @@
 -- What the words of a line name: the reader's plan; nothing of the promise rests on it. Assumes nothing.
-use Prim.Native.Nat.{_+_, _^_, suc, zero, ℕ}
+use Prim.Native.Nat.{_%_, _+_, _^_, suc, zero, ℕ}
 use lib.Dec.{eqb}
 use lib.ListN.{drop, length}
 use mathlib.Core.Bool.{Bool, cond}
@@ -25,6 +25,10 @@ bareIn j l = value 16 (word (fromWord j l))
 
 abbrev pub hexIn : ℕ → List ℕ → ℕ
 hexIn j l = value 16 (drop 2 (word (fromWord j l)))
+
+-- the five bits of an amount of places: 32 stands as 0
+abbrev pub amountField : ℕ → ℕ
+amountField n = n % 2 ^ 5
 
 -- a register list: "read as one name and then the rest", at most k deep
 unfoldable pub listIn : ℕ → List ℕ → ℕ

@@ -2,7 +2,7 @@
 ghost use mathlib.Core.Path.{_≡_};
 ghost use Prim.Native.Nat.{_≤_, _<_, _^_, _*_};
 ghost use lib.ListN.{drop};
-ghost use Rattle.reading.specs.Parts.{flag, listIn};
+ghost use Rattle.reading.specs.Parts.{amountField, flag, listIn};
 ghost use Rattle.text.specs.Digits.{value};
 ghost use Rattle.text.specs.Word.{word};
 use arm7tdmi::read_reg;
@@ -18,6 +18,13 @@ pub fn as_flag(b: bool) -> u64
         return 1;
     }
     0
+}
+
+// The five bits of an amount of places: 32 stands as 0.
+pub fn amount_field(n: u64) -> u64
+    ensures { λ r. ⌜ (r ≡ amountField n) × (r < 2 ^ 5) ⌝ }
+{
+    n % 32
 }
 
 // The number that the first word writes in hexadecimal behind `0x`.

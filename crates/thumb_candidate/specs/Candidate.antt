@@ -11,7 +11,7 @@ use Rattle.thumb.specs.declared.ThumbFormat.the-variants as H
 use Rattle.common.specs.Bits.{bit}
 use Rattle.common.specs.Lists.{same}
 use Rattle.text.specs.Word.{fromWord, has, word}
-use Rattle.reading.specs.Parts.{bareIn, decIn, flag, hexIn, listIn, regIn}
+use Rattle.reading.specs.Parts.{amountField, bareIn, decIn, flag, hexIn, listIn, regIn}
 use Rattle.thumb_mnemonic.specs.Rows.{Row, rows}
 
 -- ---- the operands of each kind, as the bits that they fill in
@@ -65,7 +65,7 @@ offsetIn pc l = moved (hexIn 1 l) (2 ^ 32 - moved pc 4) / 2
 
 -- what the operands of a line fill in, of a kind and a word b that has its mnemonic and no operands
 unfoldable pub operands : ThumbFormat → ℕ → Form → ℕ → List ℕ → ℕ
-operands H.MoveShiftedReg b form pc l = shiftIn l * 2 ^ 11 + decIn 3 l % 2 ^ 5 * 2 ^ 6 + lowIn l
+operands H.MoveShiftedReg b form pc l = shiftIn l * 2 ^ 11 + amountField (decIn 3 l) * 2 ^ 6 + lowIn l
 operands H.AddSub b form pc l = thirdIn l + lowIn l
 operands H.DataProcessImm b form pc l = regIn 1 l * 2 ^ 8 + hexIn 2 l % 2 ^ 8
 operands H.AluOps b form pc l = lowIn l

@@ -10,10 +10,11 @@ ghost use Rattle.arm7tdmi.specs.Signed.{moved};
 ghost use Rattle.text.specs.Digits.{value};
 ghost use Rattle.text.specs.Word.{after, has, word};
 ghost use Rattle.thumb_candidate.specs.Candidate.{blockIn, callUnit, shiftIn, signed, spIn, transferUnit};
-ghost use Rattle.reading.specs.Parts.{flag, listIn, regIn};
+ghost use Rattle.reading.specs.Parts.{amountField, flag, listIn, regIn};
 use crate::parts::bare;
 use crate::parts::decimal;
 use arm7tdmi::Form;
+use reading::parts::amount_field;
 use reading::parts::as_flag;
 use reading::parts::hexadecimal;
 use reading::parts::register_list;
@@ -52,9 +53,9 @@ fn shift(line: &[u8]) -> u64
 
 // A shift by a number.
 pub fn shifted(line: &[u8], first: u8, second: u8, three: &[u8]) -> u64
-    ensures { λ r. ⌜ (r ≡ shiftIn (now (line .entry)) * 2 ^ 11 + value 10 (word (now (three .entry))) % 2 ^ 5 * 2 ^ 6 + (second * 2 ^ 3 + first)) × (r < 2 ^ 20) ⌝ }
+    ensures { λ r. ⌜ (r ≡ shiftIn (now (line .entry)) * 2 ^ 11 + amountField (value 10 (word (now (three .entry)))) * 2 ^ 6 + (second * 2 ^ 3 + first)) × (r < 2 ^ 20) ⌝ }
 {
-    shift(line) * 2048 + decimal(three) % 32 * 64 + low(first, second)
+    shift(line) * 2048 + amount_field(decimal(three)) * 64 + low(first, second)
 }
 
 // The last operand of add and sub: a number, which `#` says, or a register.

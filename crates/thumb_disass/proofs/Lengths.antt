@@ -111,7 +111,7 @@ pub line-within : (form : Form) (fmt : ThumbFormat) (pc raw : ℕ) → Within 5 
 unfolding lineOf L.fmtThumbMoveShiftedReg L.fmtThumbDataProcessImm L.fmtThumbAluOps L.fmtThumbHighRegOpOrBx L.fmtThumbLdrPc L.fmtThumbLdrStrRegOffset L.fmtThumbLdrStrShb L.fmtThumbLdrStrImmOffset L.fmtThumbLdrStrHalfword L.fmtThumbLdrStrSp L.fmtThumbLoadAddress L.fmtThumbAddSub L.fmtThumbAddSp L.fmtThumbPushPop L.fmtThumbLdmStm L.fmtThumbBranchWithCond L.fmtThumbSwi L.fmtThumbBranch L.fmtThumbBranchLongWithLink
 line-within form H.MoveShiftedReg pc raw =
     loosely (shift (barrelShiftOpCode (bitRange raw 11 13)) & exactly (text "\t") & rd raw & exactly (text ", ") & rs raw & exactly (text ", #")
-    & dec-within (bitRange raw 6 11)) (omega arith) (omega arith)
+    & dec-within (L.shiftPlaces form raw)) (omega arith) (omega arith)
 line-within form H.AddSub pc raw =
     loosely (either-within raw 9 (exactly (text "sub")) (exactly (text "add")) & exactly (text "\t") & rd raw & exactly (text ", ") & rs raw
     & exactly (text ", ")

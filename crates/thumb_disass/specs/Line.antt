@@ -1,6 +1,6 @@
 -- The lines of Thumb words, bench and sheet: one definition for each `fmt_` function of the Rust's thumb/disass.rs, in its order, with the Rust's
 -- format beside it. Where the sheet line differs (S5, S6 and S8 of document 01), an operand has the form; S7 is the kind's. S9 stands where an address
--- is shown. Assumes nothing.
+-- is shown, S10 where an amount is. Assumes nothing.
 use mathlib.Core.Bool.{cond}
 use mathlib.Core.List.{List, _++_}
 use Prim.Native.Nat.{ℕ, _+_, _*_}
@@ -9,7 +9,7 @@ use Rattle.text.specs.Text.{text}
 use Rattle.text.specs.Digits.{dec, prefixed}
 use Rattle.lines.specs.Address.{address}
 use Rattle.lines.specs.Pieces.{regAt, condAt, either, ifSet, registers}
-use Rattle.arm7tdmi.specs.Alu.{barrelShiftOpCode}
+use Rattle.arm7tdmi.specs.Alu.{barrelShiftOpCode, amountOf, places}
 use Rattle.thumb.specs.Fields.{opFormat3, opFormat5, thumbAluOp, word8, pcLoadAddress, bcondTarget, branchTarget, callHalf}
 use Rattle.arm7tdmi.specs.declared.Form.{Form}
 use Rattle.arm7tdmi.specs.declared.alu.BarrelShiftOpCode.{BarrelShiftOpCode}
@@ -63,9 +63,14 @@ aluOpText Op.BIC = text "bic"
 aluOpText Op.MVN = text "mvn"
 
 -- ---- fmt_thumb_move_shifted_reg: "{op:?}\t{Rd}, {Rs}, #{Offset5}"
-unfoldable pub fmtThumbMoveShiftedReg : ℕ → List ℕ
-fmtThumbMoveShiftedReg raw =
-    shiftText (barrelShiftOpCode (bitRange raw 11 13)) ++ text "\t" ++ regAt raw 0 3 ++ text ", " ++ regAt raw 3 6 ++ text ", #" ++ dec (bitRange raw 6 11)
+-- S10: "Sheet lines now print `#32`" for an amount of 0 of LSR and ASR, "Thumb MoveShiftedReg included"
+unfoldable pub shiftPlaces : Form → ℕ → ℕ
+shiftPlaces form raw = places (amountOf form (barrelShiftOpCode (bitRange raw 11 13)) (bitRange raw 6 11))
+
+unfoldable pub fmtThumbMoveShiftedReg : Form → ℕ → List ℕ
+fmtThumbMoveShiftedReg form raw =
+    shiftText (barrelShiftOpCode (bitRange raw 11 13)) ++ text "\t" ++ regAt raw 0 3 ++ text ", " ++ regAt raw 3 6 ++ text ", #"
+    ++ dec (shiftPlaces form raw)
 
 -- ---- fmt_thumb_data_process_imm: "{op}\t{Rd}, #{Offset8:#x}"
 unfoldable pub fmtThumbDataProcessImm : ℕ → List ℕ
@@ -163,7 +168,7 @@ fmtThumbBranchLongWithLink raw = text "bl\t#" ++ prefixed 8 (callHalf raw)
 
 -- ---- the line of a word of a kind
 unfoldable pub lineOf : Form → ThumbFormat → ℕ → ℕ → List ℕ
-lineOf form H.MoveShiftedReg pc raw = fmtThumbMoveShiftedReg raw
+lineOf form H.MoveShiftedReg pc raw = fmtThumbMoveShiftedReg form raw
 lineOf form H.AddSub pc raw = fmtThumbAddSub raw
 lineOf form H.DataProcessImm pc raw = fmtThumbDataProcessImm raw
 lineOf form H.AluOps pc raw = fmtThumbAluOps raw

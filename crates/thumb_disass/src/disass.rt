@@ -1,6 +1,7 @@
 // One function for each `fmt_` function of the Rust, in its order.
+ghost use mathlib.Core.Path.{_≡_};
 ghost use Rattle.text.specs.Wrote.{Wrote};
-ghost use Rattle.thumb_disass.specs.Line.{fmtThumbMoveShiftedReg, fmtThumbDataProcessImm, fmtThumbAluOps, fmtThumbHighRegOpOrBx, fmtThumbLdrPc, fmtThumbLdrStrRegOffset, fmtThumbLdrStrShb, fmtThumbLdrStrImmOffset, fmtThumbLdrStrHalfword, fmtThumbLdrStrSp, fmtThumbLoadAddress, fmtThumbAddSub, fmtThumbAddSp, fmtThumbPushPop, fmtThumbLdmStm, fmtThumbBranchWithCond, fmtThumbSwi, fmtThumbBranch, fmtThumbBranchLongWithLink};
+ghost use Rattle.thumb_disass.specs.Line.{shiftPlaces, fmtThumbMoveShiftedReg, fmtThumbDataProcessImm, fmtThumbAluOps, fmtThumbHighRegOpOrBx, fmtThumbLdrPc, fmtThumbLdrStrRegOffset, fmtThumbLdrStrShb, fmtThumbLdrStrImmOffset, fmtThumbLdrStrHalfword, fmtThumbLdrStrSp, fmtThumbLoadAddress, fmtThumbAddSub, fmtThumbAddSp, fmtThumbPushPop, fmtThumbLdmStm, fmtThumbBranchWithCond, fmtThumbSwi, fmtThumbBranch, fmtThumbBranchLongWithLink};
 use crate::operation::put_alu_op;
 use crate::operation::put_op3;
 use crate::operation::put_op5;
@@ -36,17 +37,24 @@ use thumb_operand::put_high_operands;
 use thumb_operand::put_link;
 use thumb_operand::put_sp_offset;
 
-pub fn fmt_thumb_move_shifted_reg(buf: &mut [u8], at: usize, raw: u32) -> usize
-    ensures { λ r. ⌜ Wrote (now (buf .entry)) at (fmtThumbMoveShiftedReg raw) (now (buf .exit)) r ⌝ }
+// By how many places a register is shifted.
+fn shift_places(form: Form, raw: u32) -> u32
+    ensures { λ r. ⌜ r ≡ shiftPlaces form raw ⌝ }
+{
+    format1_op(raw).amount(form, offset5(raw)).places()
+}
+
+pub fn fmt_thumb_move_shifted_reg(buf: &mut [u8], at: usize, form: Form, raw: u32) -> usize
+    ensures { λ r. ⌜ Wrote (now (buf .entry)) at (fmtThumbMoveShiftedReg form raw) (now (buf .exit)) r ⌝ }
 {
     let op = format1_op(raw);
-    let amount = offset5(raw);
+    let places = shift_places(form, raw);
     let at = put_shift(buf, at, op);
     let at = put_byte(buf, at, b'\t');
     let at = put_reg_comma(buf, at, raw, 0, 3);
     let at = put_reg_at(buf, at, raw, 3, 6);
     let at = put_text(buf, at, b", #");
-    put_dec(buf, at, amount)
+    put_dec(buf, at, places)
 }
 
 pub fn fmt_thumb_data_process_imm(buf: &mut [u8], at: usize, raw: u32) -> usize

@@ -32,7 +32,7 @@ pub fn put_line(buf: &mut [u8], form: Form, fmt: ThumbFormat, pc: u32, raw: u32)
     ensures { λ r. ⌜ Wrote (now (buf .entry)) 0 (lineOf form fmt pc raw) (now (buf .exit)) r ⌝ }
 {
     match fmt {
-        ThumbFormat::MoveShiftedReg => fmt_thumb_move_shifted_reg(buf, 0, raw),
+        ThumbFormat::MoveShiftedReg => fmt_thumb_move_shifted_reg(buf, 0, form, raw),
         ThumbFormat::AddSub => fmt_thumb_add_sub(buf, 0, raw),
         ThumbFormat::DataProcessImm => fmt_thumb_data_process_imm(buf, 0, raw),
         ThumbFormat::AluOps => fmt_thumb_alu_ops(buf, 0, raw),

@@ -8,15 +8,17 @@ use mathlib.Core.List.{List, [], _++_, _∷_}
 use mathlib.Core.Path.{_∙_, _≡_, refl, sym}
 use native.Mathlib.Omega.{arith}
 use Rattle.arm7tdmi.proofs.Names.{reg-back, reg-wordy}
-use Rattle.arm7tdmi.specs.Alu.{barrelShiftOpCode}
+use Rattle.arm7tdmi.specs.Alu.{amountOf, barrelShiftOpCode, places}
 use Rattle.thumb.specs.Kinds.{thumbNumber}
 use Rattle.arm7tdmi.specs.Names.{regString}
 use Rattle.lines.specs.Pieces.{either, ifSet, regAt}
 use Rattle.thumb.specs.Fields.{thumbAluOp}
 use Rattle.arm7tdmi.specs.declared.Form.{Form}
+use Rattle.arm7tdmi.specs.declared.alu.Amount.{Amount}
 use Rattle.thumb.specs.declared.ThumbFormat.{ThumbFormat}
 use Rattle.common.proofs.Tests.{at, by-test}
 use Rattle.common.specs.Lists.{first, same}
+use Rattle.reading.proofs.Amount.{amount-states, places-state}
 use Rattle.reading.proofs.Pieces.{Pieces, first-word, firstOf, gapsHave, good, has-append, has-gaps, last, lead-from, none, piece, regroup, spell, word-nth}
 use Rattle.text.proofs.Digits.{dec-back, hex-back, prefixed-back}
 use Rattle.text.proofs.Word.{dec-wordy, gap, hex-wordy, prefixed-wordy, wordy}
@@ -24,11 +26,11 @@ use Rattle.text.specs.Digits.{dec, hex, prefixed}
 use Rattle.text.specs.Text.{text}
 use Rattle.text.specs.Word.{after, fromWord, has, isWord, word}
 use Rattle.thumb_operand.specs.Operand.{addSubOperand, immOffset}
-use Rattle.thumb_disass.specs.Line.{aluOpText, fmtThumbAddSub, fmtThumbAluOps, fmtThumbLdrStrHalfword, fmtThumbLdrStrImmOffset, fmtThumbLdrStrRegOffset, fmtThumbLdrStrShb, fmtThumbMoveShiftedReg, shbText, shiftText, lineOf}
+use Rattle.thumb_disass.specs.Line.{aluOpText, fmtThumbAddSub, fmtThumbAluOps, fmtThumbLdrStrHalfword, fmtThumbLdrStrImmOffset, fmtThumbLdrStrRegOffset, fmtThumbLdrStrShb, fmtThumbMoveShiftedReg, shbText, shiftPlaces, shiftText, lineOf}
 use Rattle.thumb_lowest.proofs.Found.{Law, Mnemonic, Words, exact, pick, rows-are, rows-are₂, whole-found}
 use Rattle.thumb_candidate.specs.Candidate.{lowIn, operands, shiftIn, thirdIn, transferUnit, suits}
 use Rattle.thumb_mnemonic.specs.Rows.{rows}
-use Rattle.reading.specs.Parts.{flag}
+use Rattle.reading.specs.Parts.{amountField, flag}
 use Rattle.thumb_words.proofs.Laws.{parts, thumb-read, thumb-words}
 use Rattle.thumb_words.proofs.Words.{moveShiftedRegWord}
 use Rattle.thumb.specs.declared.ThumbFormat.the-variants as H
@@ -55,15 +57,22 @@ unfolding shiftText barrelShiftOpCode has
 capitals-back op h = eqb-true _ _ (at (λ op. eqb (cond (has 65 (capitals op)) 2 (flag (has 82 (capitals op)))) op) 3 refl op h)
 
 module _ (form : Form) (pc op offset rs rd : ℕ) (f : Fits (parts form H.MoveShiftedReg) (op ∷ offset ∷ rs ∷ rd ∷ [])) where
+  -- the places that are stated
+  abbrev stated : Amount
+  stated = amountOf form (barrelShiftOpCode op) offset
+
+  stated-back : (places stated < 2 ^ 32) × (amountField (places stated) ≡ offset)
+  stated-back = places-state op offset stated (amount-states form op offset (omega arith) (omega arith))
+
   abbrev qs : Pieces
-  qs = piece (regString rd) (text ", ") (piece (regString rs) (text ", #") (last (dec offset)))
+  qs = piece (regString rd) (text ", ") (piece (regString rs) (text ", #") (last (dec (places stated))))
 
   abbrev shift-line : List ℕ
   shift-line = capitals op ++ spell qs
 
   qs-good : good qs ≡ true
   unfolding isWord
-  qs-good = rw (reg-wordy rd (omega arith), reg-wordy rs (omega arith), dec-wordy offset)
+  qs-good = rw (reg-wordy rd (omega arith), reg-wordy rs (omega arith), dec-wordy (places stated))
 
   lead : (word shift-line ≡ []) × (after shift-line ≡ spell qs)
   lead = lead-from (capitals op) qs (capitals-gap op (f .0)) qs-good
@@ -76,13 +85,13 @@ module _ (form : Form) (pc op offset rs rd : ℕ) (f : Fits (parts form H.MoveSh
   unfolding operands suits shiftIn lowIn has isWord
   shift-back =
       rw (shift-mark 65 refl refl, shift-mark 82 refl refl, capitals-back op (f .0), lead .1, first-word qs qs-good, word-nth 1 qs qs-good, word-nth 2 qs qs-good)
-      (rw (reg-back rd (omega arith), reg-back rs (omega arith), dec-back offset (omega arith)) (omega arith))
+      (rw (reg-back rd (omega arith), reg-back rs (omega arith), dec-back (places stated) (stated-back .0), stated-back .1) (omega arith))
 
   shift-shown : lineOf form H.MoveShiftedReg pc (moveShiftedRegWord op offset rs rd) ≡ shift-line
-  unfolding lineOf fmtThumbMoveShiftedReg regAt
+  unfolding lineOf fmtThumbMoveShiftedReg shiftPlaces regAt
   shift-shown =
       let r = thumb-read form H.MoveShiftedReg tt (op ∷ offset ∷ rs ∷ rd ∷ []) f in
-      rw (r 0, r 1, r 2, r 3) (regroup (capitals op) (regString rd ∷ text ", " ∷ regString rs ∷ text ", #" ∷ dec offset ∷ []))
+      rw (r 0, r 1, r 2, r 3) (regroup (capitals op) (regString rd ∷ text ", " ∷ regString rs ∷ text ", #" ∷ dec (places stated) ∷ []))
 
   shift-found : Law form pc H.MoveShiftedReg tt (moveShiftedRegWord op offset rs rd)
   unfolding rows suits

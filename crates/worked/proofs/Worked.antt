@@ -4,7 +4,7 @@ use mathlib.Core.List.{List, [], _∷_, map}
 use mathlib.Core.Path.{_≡_, _∙_, refl}
 use Prim.Native.Nat.{_^_}
 use native.Mathlib.Omega.{arith}
-use Rattle.arm7tdmi.specs.Alu.{aluOpCode, barrelShiftOpCode}
+use Rattle.arm7tdmi.specs.Alu.{aluOpCode, amountOf, barrelShiftOpCode, sheetAmount}
 use Rattle.arm.specs.Fields as Arm
 use Rattle.arm.specs.Kinds.{armRows}
 use Rattle.thumb.specs.Kinds.{thumbRows}
@@ -28,7 +28,7 @@ use Rattle.arm_lowest.proofs.Read.{read-arm}
 use Rattle.thumb_lowest.proofs.Read.{read-thumb}
 use Rattle.arm_candidate.specs.Candidate.{candidate}
 use Rattle.arm_candidate.specs.CandidateDataProcessing.{dpCand, dpFrom}
-use Rattle.arm_candidate.specs.CandidateOperand.{immediateOf, operandOf, rotationOf, shiftNamed, shiftNames, shiftedOf}
+use Rattle.arm_candidate.specs.CandidateOperand.{immediateOf, operandOf, rotationOf, shiftNamed, shiftNames, shiftOf, shiftedOf}
 use Rattle.arm_candidate.specs.CandidateSimple.{undefinedCand}
 use Rattle.arm_mnemonic.specs.Heads.{condOf, headOf, stemNames, stemOf, stems}
 use Rattle.thumb_candidate.specs.Candidate as TCandidate
@@ -56,7 +56,7 @@ rows-law [] = refl
 rows-law (r ∷ l) = rw (law Bench (r .benchInput), law Sheet (r .sheetInput), rows-law l)
 
 computed : map (givenRow byLaw) table ≡ table
-unfolding aluOpCode barrelShiftOpCode armCond Arm.halfwordType Arm.branchOffset Arm.branchTarget Arm.bsOp Arm.shiftRegBy Arm.operand2 Arm.addedOf Arm.signedOffset Arm.ldrStrOffset armRows thumbRows regNames regString condNames condText regAt condAt either ifSet setBits registers listed extended Thumb.opFormat5 Thumb.sword7 ALine.opText AOperand.byAmount AOperand.shiftBy AOperand.shiftedRegister ALine.bxCond ALine.fmtBx ALine.fmtBranch AOperand.fmtOperand2 AOperand.rdText ALine.fmtThree ALine.fmtOpcode ALine.fmtDataProcessing AOperand.benchOffset AOperand.magnitude AOperand.sheetOffset AOperand.immediateOffset AOperand.signText AOperand.signedRegister AOperand.offsetText AOperand.indexed AOperand.valueComment AOperand.comment AOperand.fmtRnOffset ALine.userMark ALine.fmtLdrStr ALine.lineOf APrint.answerOf APrint.armLine first digits hex prefixed dec TLine.op5Text TOperand.highDst TOperand.dstReg TOperand.srcReg TOperand.dstAndSrc TOperand.highOperands TLine.fmtThumbHighRegOpOrBx TOperand.spSize TOperand.spBits TOperand.sheetSpOffset TOperand.spOffset TLine.fmtThumbAddSp TOperand.baseText TLine.fmtThumbLdmStm TLine.lineOf TPrint.thumbLine candidate dpCand dpFrom undefinedCand condOf headOf stemNames stemOf stems same regNamed condNamed digitValue valueFrom Words.isWord Words.word Words.behind Words.after Words.has ALine.fmtTest AOperand.immediate AOperand.decodedText immediateOf operandOf rotationOf shiftNamed shiftNames shiftedOf Arm.pcRelative address Thumb.bcondTarget Thumb.branchTarget TLine.fmtThumbBranchWithCond TLine.fmtThumbBranch TCandidate.candidates TCandidate.candidate TCandidate.operands TCandidate.offsetIn TCandidate.suits rows best
+unfolding aluOpCode amountOf barrelShiftOpCode sheetAmount armCond Arm.halfwordType Arm.branchOffset Arm.branchTarget Arm.bsOp Arm.shiftRegBy Arm.operand2 Arm.addedOf Arm.signedOffset Arm.ldrStrOffset armRows thumbRows regNames regString condNames condText regAt condAt either ifSet setBits registers listed extended Thumb.opFormat5 Thumb.sword7 ALine.opText AOperand.shiftText AOperand.placesText AOperand.amountText AOperand.byAmount AOperand.shiftBy AOperand.shiftedRegister ALine.bxCond ALine.fmtBx ALine.fmtBranch AOperand.fmtOperand2 AOperand.rdText ALine.fmtMove ALine.fmtThree ALine.fmtOpcode ALine.fmtDataProcessing AOperand.benchOffset AOperand.magnitude AOperand.sheetOffset AOperand.immediateOffset AOperand.signText AOperand.signedRegister AOperand.offsetText AOperand.indexed AOperand.valueComment AOperand.comment AOperand.fmtRnOffset ALine.userMark ALine.fmtLdrStr ALine.lineOf APrint.answerOf APrint.armLine first digits hex prefixed dec TLine.shiftText TLine.shiftPlaces TLine.fmtThumbMoveShiftedReg TLine.op5Text TOperand.highDst TOperand.dstReg TOperand.srcReg TOperand.dstAndSrc TOperand.highOperands TLine.fmtThumbHighRegOpOrBx TOperand.spSize TOperand.spBits TOperand.sheetSpOffset TOperand.spOffset TLine.fmtThumbAddSp TOperand.baseText TLine.fmtThumbLdmStm TLine.lineOf TPrint.thumbLine candidate dpCand dpFrom undefinedCand condOf headOf stemNames stemOf stems same regNamed condNamed digitValue valueFrom Words.isWord Words.word Words.behind Words.after Words.has ALine.fmtTest AOperand.immediate AOperand.decodedText immediateOf operandOf rotationOf shiftNamed shiftNames shiftOf shiftedOf Arm.pcRelative address Thumb.bcondTarget Thumb.branchTarget TLine.fmtThumbBranchWithCond TLine.fmtThumbBranch TCandidate.candidates TCandidate.candidate TCandidate.operands TCandidate.offsetIn TCandidate.suits rows best
 computed = refl
 
 pub worked : map (givenRow gives) table ≡ table

@@ -1,4 +1,5 @@
--- The worked lines of the scope paper that are marked as proved, and those at address 100, as document 02 (i) respells them. Assumes nothing.
+-- The worked lines of the scope paper that are marked as proved, and those at address 100, as document 02 (i) respells them; and shifts by an amount
+-- of 0, as document 02 (ii) has them. Assumes nothing.
 use mathlib.Core.List.{List, [], _∷_}
 use Prim.Native.Nat.{ℕ}
 use Prim.Native.String.{String}
@@ -64,10 +65,14 @@ table =
     ∷ row (arm 0xF12FFF10 0) (shows "bx\tr0") (refuses 1)
     ∷ row (arm 0xE1800090 0) (refuses 2) (refuses 2)
     ∷ row (arm 0xF1800090 0) (refuses 1) (refuses 1)
+    ∷ row (arm 0xE1A01022 0) (shows "mov\tr0, r2, lsr #0") (shows "mov\tr1, r2, lsr #32")
+    ∷ row (arm 0xE1A01062 0) (shows "mov\tr0, r2, ror #0") (shows "mov\tr1, r2, rrx")
+    ∷ row (thumb 0x0808 0) (shows "LSR\tr0, r1, #0") (shows "LSR\tr0, r1, #32")
     ∷ row (thumb 0x4480 0) (shows "add\tr0, r0") (shows "add\tr8, r0")
     ∷ row (thumb 0xC808 0) (shows "ldm\tr1!, {r3}") (shows "ldm\tr0!, {r3}")
     ∷ row (thumb 0xB0FF 0) (shows "add\tsp, #fffffe04") (shows "add\tsp, #-0x1fc")
     ∷ row (armRead (text "tst\tpc, r0")) (word 0xE11F0000) (word 0xE11F0000)
     ∷ row (armRead (text "<Undefined>")) (word 0x06000000) (word 0x06000010)
+    ∷ apart (armRead (text "mov\tr0, r2, lsr #0")) (word 0xE1A00022) (armRead (text "mov\tr1, r2, lsr #32")) (word 0xE1A01022)
     ∷ apart (thumbRead (text "b\t0x104") 0x100) (word 0xDE00) (thumbRead (text "b\t0x00000104") 0x100) (word 0xE000)
     ∷ []

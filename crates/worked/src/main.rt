@@ -143,6 +143,20 @@ fn thumb_both() -> u32
     n + thumb(Form::Sheet, 0, 0xb0ff, 0, b"add\tsp, #-0x1fc")
 }
 
+// An amount of 0: as the field has it on the bench, as what it means on the sheet.
+fn shifts_of_zero() -> u32
+    ensures { λ r. ⌜ r ≤ 8 ⌝ }
+{
+    let n = arm(Form::Bench, 0, 0xe1a0_1022, 0, b"mov\tr0, r2, lsr #0");
+    let n = n + arm(Form::Sheet, 0, 0xe1a0_1022, 0, b"mov\tr1, r2, lsr #32");
+    let n = n + arm(Form::Sheet, 0, 0xe1a0_1042, 0, b"mov\tr1, r2, asr #32");
+    let n = n + arm(Form::Sheet, 0, 0xe1a0_1062, 0, b"mov\tr1, r2, rrx");
+    let n = n + arm(Form::Sheet, 0, 0xe791_0062, 0, b"ldr\tr0, [r1, r2, rrx]");
+    let n = n + thumb(Form::Bench, 0, 0x0808, 0, b"LSR\tr0, r1, #0");
+    let n = n + thumb(Form::Sheet, 0, 0x0808, 0, b"LSR\tr0, r1, #32");
+    n + thumb(Form::Sheet, 0, 0x1008, 0, b"ASR\tr0, r1, #32")
+}
+
 fn read_bench() -> u32
     ensures { λ r. ⌜ r ≤ 8 ⌝ }
 {
@@ -182,6 +196,42 @@ fn read_addresses() -> u32
     n + thumb_line(Form::Sheet, 0x100, b"b\t00000104", 4, 0)
 }
 
+fn read_shifts() -> u32
+    ensures { λ r. ⌜ r ≤ 8 ⌝ }
+{
+    let n = arm_line(Form::Bench, b"mov\tr0, r2, lsr #0", 0, 0xe1a0_0022);
+    let n = n + arm_line(Form::Sheet, b"mov\tr1, r2, lsr #32", 0, 0xe1a0_1022);
+    let n = n + arm_line(Form::Sheet, b"mov\tr1, r2, asr #32", 0, 0xe1a0_1042);
+    let n = n + arm_line(Form::Sheet, b"mov\tr1, r2, rrx", 0, 0xe1a0_1062);
+    let n = n + arm_line(Form::Sheet, b"ldr\tr0, [r1, r2, rrx]", 0, 0xe791_0062);
+    let n = n + thumb_line(Form::Bench, 0, b"LSR\tr0, r1, #0", 0, 0x0808);
+    let n = n + thumb_line(Form::Sheet, 0, b"LSR\tr0, r1, #32", 0, 0x0808);
+    n + thumb_line(Form::Sheet, 0, b"ASR\tr0, r1, #32", 0, 0x1008)
+}
+
+// Shifts that no word has: on the sheet an amount of 0 but for LSL, and 32 for LSL and ROR.
+fn read_no_shifts() -> u32
+    ensures { λ r. ⌜ r ≤ 8 ⌝ }
+{
+    let n = arm_line(Form::Sheet, b"mov\tr1, r2, lsr #0", 4, 0);
+    let n = n + arm_line(Form::Sheet, b"mov\tr1, r2, asr #0", 4, 0);
+    let n = n + arm_line(Form::Sheet, b"mov\tr1, r2, ror #0", 4, 0);
+    let n = n + arm_line(Form::Sheet, b"mov\tr1, r2, lsl #32", 4, 0);
+    let n = n + arm_line(Form::Sheet, b"mov\tr1, r2, ror #32", 4, 0);
+    let n = n + arm_line(Form::Sheet, b"mov\tr1, r2, rrx #0", 4, 0);
+    let n = n + arm_line(Form::Sheet, b"mov\tr1, r2, lsr #33", 4, 0);
+    n + thumb_line(Form::Sheet, 0, b"LSR\tr0, r1, #0", 4, 0)
+}
+
+// The bench has neither 32 nor rrx.
+fn read_no_bench_shifts() -> u32
+    ensures { λ r. ⌜ r ≤ 3 ⌝ }
+{
+    let n = arm_line(Form::Bench, b"mov\tr0, r2, lsr #32", 4, 0);
+    let n = n + arm_line(Form::Bench, b"mov\tr0, r2, rrx", 4, 0);
+    n + thumb_line(Form::Bench, 0, b"LSR\tr0, r1, #32", 4, 0)
+}
+
 fn read_thumb_lines() -> u32
     ensures { λ r. ⌜ r ≤ 6 ⌝ }
 {
@@ -198,11 +248,15 @@ fn main() {
     let n = arm_bench()
         + arm_sheet()
         + thumb_both()
+        + shifts_of_zero()
         + read_bench()
         + read_sheet()
         + read_addresses()
+        + read_shifts()
+        + read_no_shifts()
+        + read_no_bench_shifts()
         + read_thumb_lines();
     let at = put_dec(&mut out, 0, n);
-    let at = put_text(&mut out, at, b" of 51 answers differ\n");
+    let at = put_text(&mut out, at, b" of 78 answers differ\n");
     io::write_all(STDOUT_FILENO, part(&out, 0, at));
 }

@@ -18,8 +18,8 @@ returns c =
 returns-2 : tie.Need-returns-2
 unfolding shiftedOf
 returns-2 c =
-    let w = now (c .before .before .before .before .before .first-word .result) in
-    (rw (c .by-named .ensures .0, c .before .shift-named .ensures .0, c .before .before .first-word2 .ensures, c .before .before .before .next-word2 .ensures, ← c .before .before .before .before .before .before .next-word .ensures, ← c .before .before .before .before .before .first-word .ensures, ne-eqb (length w) 0 (c .before .before .before .before .if1 .left), c .before .before .before .before .before .before .before .register .ensures .0), search needs)
+    let w = now (c .before .before .before .before .first-word .result) in
+    (rw (c .shift-of .ensures .0, c .before .first-word2 .ensures, c .before .before .next-word2 .ensures, ← c .before .before .before .before .before .next-word .ensures, ← c .before .before .before .before .first-word .ensures, ne-eqb (length w) 0 (c .before .before .before .if1 .left), c .before .before .before .before .before .before .register .ensures .0), search needs)
 
 pub shifted-spec : {M : Type 1} → statement M
-shifted-spec = tie.close (tie.spec (λ c κs. search needs) (λ c κs. search needs) (λ c κs. search needs) returns (λ c κs. search needs) (λ c κs. search needs) (λ c κs. search needs) (λ c. search needs) (λ c κs. search needs) (λ c. search needs) (λ c. search needs) returns-2)
+shifted-spec = tie.close (tie.spec (λ c κs. search needs) (λ c κs. search needs) (λ c κs. search needs) returns (λ c κs. search needs) (λ c κs. search needs) (λ c κs. search needs) (λ c. search needs) returns-2)

@@ -14,7 +14,7 @@ returns c =
     let c2 = c3 .before .before .before .before in
     let c1 = c2 .before .before .before .before in
     let c0 = c1 .before .before .before .before in
-    rw (← c .before .before .before .before .before .before .before .before .before .before .before .before .before .before .before .before .before .before .before .before .before .before .before .before .before .before .format1-op .ensures) (rw (← c .before .before .before .before .before .before .before .before .before .before .before .before .before .before .before .before .before .before .before .before .before .before .before .before .before .offset5 .ensures) (c0 .put-shift .ensures ⨾ c1 .put-byte .ensures ⨾⨾ c2 .put-reg-comma .ensures ⨾ c3 .put-reg-at .ensures ⨾ c4 .put-text .ensures ⨾ c5 .put-dec .ensures))
+    rw (← c .before .before .before .before .before .before .before .before .before .before .before .before .before .before .before .before .before .before .before .before .before .before .before .before .before .before .format1-op .ensures) (rw (← c .before .before .before .before .before .before .before .before .before .before .before .before .before .before .before .before .before .before .before .before .before .before .before .before .before .shift-places .ensures) (c0 .put-shift .ensures ⨾ c1 .put-byte .ensures ⨾⨾ c2 .put-reg-comma .ensures ⨾ c3 .put-reg-at .ensures ⨾ c4 .put-text .ensures ⨾ c5 .put-dec .ensures))
 
 pub fmt-thumb-move-shifted-reg-spec : {M : Type 1} → statement M
 fmt-thumb-move-shifted-reg-spec = tie.close (tie.spec (λ c κs. search needs) (λ c κs. search needs) (λ c κs. search needs) (λ c κs. search needs) (λ c κs. search needs) (λ c κs. search needs) (λ c. search needs) (λ c κs. search needs) (λ c κs. search needs) (λ c. kept (returns c)) returns)
