@@ -75,9 +75,9 @@ barrelShiftNumber Shift.LSR = 1
 barrelShiftNumber Shift.ASR = 2
 barrelShiftNumber Shift.ROR = 3
 
--- ---- what the immediate amount of a shift means
--- S10: "By the data sheet, an immediate amount of 0 means 32 for LSR and ASR, and RRX for ROR"; LSL #0 is no shift, and stays 0 (ARM DDI 0029: Data
--- Processing, Shifts; of Thumb, Format 1: move shifted register)
+-- ---- what the immediate amount of a shift means, in both sets
+-- S10: "By the data sheet, an immediate amount of 0 means 32 for LSR and ASR, and RRX for ROR". ARM DDI 0029 has the rule under the shifts of data
+-- processing: the codes of LSR #0, ASR #0 and ROR #0 stand for LSR #32, ASR #32 and RRX, that of LSL #0 for the register as it is.
 abbrev pub amountOfZero : BarrelShiftOpCode → Amount
 amountOfZero Shift.LSL = Places 0
 amountOfZero Shift.LSR = Places 32
@@ -92,7 +92,7 @@ unfoldable pub amountOf : Form → BarrelShiftOpCode → ℕ → Amount
 amountOf Bench op n = Places n
 amountOf Sheet op n = sheetAmount op n
 
--- the places that are stated; of RRX none
+-- by how many places, as a line states them: of RRX none
 abbrev pub places : Amount → ℕ
 places (Places n) = n
 places Rrx = 0

@@ -149,7 +149,7 @@ impl BarrelShiftOpCode {
         Amount::Places(n)
     }
 
-    // S10: what an immediate amount means; on the bench, what the field holds.
+    // S10: what the immediate amount n means; the bench has the field's value.
     pub fn amount(self, form: Form, n: u32) -> Amount
         ensures { λ r. ⌜ r ≡ amountOf form self n ⌝ }
     {
@@ -160,13 +160,14 @@ impl BarrelShiftOpCode {
     }
 }
 
-// The immediate amount of a shift as a line states it.
+// What the immediate amount of a shift means: so many places, or that the shift is RRX.
 pub enum Amount {
     Places(u32),
     Rrx,
 }
 
 impl Amount {
+    // By how many places; RRX states none.
     pub fn places(self) -> u32
         ensures { λ r. ⌜ r ≡ places self ⌝ }
     {

@@ -1,5 +1,5 @@
 -- Operand 2, and a shifted register as an offset, from the words of a line; some number on anything else. The reader's plan; nothing of the promise rests on it. Assumes nothing.
-use Prim.Native.Nat.{_%_, _*_, _+_, _-_, _^_, ℕ}
+use Prim.Native.Nat.{_*_, _+_, _-_, _^_, ℕ}
 use lib.Dec.{eqb, ltb}
 use lib.ListN.{getD, length}
 use mathlib.Core.Bool.{Bool, cond}

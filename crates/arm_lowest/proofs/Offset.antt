@@ -25,8 +25,8 @@ use Rattle.arm_words.proofs.Operand.{shiftLeast}
 use Rattle.arm_words.proofs.Scheme.{bench}
 use Rattle.arm_words.proofs.Transfer.{unsigned}
 use Rattle.common.proofs.Tests.{by-test}
-use Rattle.common.specs.Bits.{bit, bitRange}
-use Rattle.reading.proofs.Pieces.{Pieces, ended, ended-first, ended-gaps, ended-good, ended-spelled, first-word, firstOf, from-nth, gapsHave, good, has-append, has-gaps, last, piece, rest-nth, some, spell, word-nth}
+use Rattle.common.specs.Bits.{bitRange}
+use Rattle.reading.proofs.Pieces.{Pieces, ended, ended-first, ended-gaps, ended-good, ended-spelled, first-word, firstOf, from-nth, gapsHave, good, has-append, has-gaps, last, piece, rest-nth, spell, word-nth}
 use Rattle.text.proofs.Digits.{dec-back}
 use Rattle.text.proofs.Word.{dec-first, dec-wordy, gap, prefixed-wordy, wordy}
 use Rattle.text.specs.Digits.{dec, value}

@@ -68,11 +68,11 @@ amountPieces r k Rrx = piece (regString r) (text ", ") (last (text "rrx"))
 abbrev regPieces : ℕ → ℕ → ℕ → Pieces
 regPieces r k rs = piece (regString r) (text ", ") (piece (shiftName k) (text " ") (last (regString rs)))
 
--- the amount that is stated of the twelve bits n, and whether it is LSL #0
-abbrev pub stated : Form → ℕ → Amount
+-- the amount that the twelve bits n state, and whether it is LSL #0
+abbrev stated : Form → ℕ → Amount
 stated form n = amountOf form (barrelShiftOpCode (bitRange n 5 7)) (bitRange n 7 12)
 
-abbrev pub alone : ℕ → Bool
+abbrev alone : ℕ → Bool
 alone n = eqb (bitRange n 5 7 * 32 + bitRange n 7 12) 0
 
 -- of the twelve bits n
@@ -82,7 +82,7 @@ shiftPieces form n =
     (cond (alone n) (last (regString (bitRange n 0 4))) (amountPieces (bitRange n 0 4) (bitRange n 5 7) (stated form n)))
 
 -- a fact about them, from that about a shift by a register, a register alone, and any amount
-pub shift-cases : (P : Pieces → Type 0) (form : Form) (n : ℕ) →
+shift-cases : (P : Pieces → Type 0) (form : Form) (n : ℕ) →
     P (regPieces (bitRange n 0 4) (bitRange n 5 7) (bitRange n 8 12)) → P (last (regString (bitRange n 0 4))) →
     P (amountPieces (bitRange n 0 4) (bitRange n 5 7) (stated form n)) → P (shiftPieces form n)
 shift-cases P form n a b c = by-test (bit n 4) (λ e. rw e a) (λ e. by-test (alone n) (λ z. rw (e, z) b) (λ z. rw (e, z) c))

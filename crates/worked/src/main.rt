@@ -144,17 +144,24 @@ fn thumb_both() -> u32
 }
 
 // An amount of 0: as the field has it on the bench, as what it means on the sheet.
-fn shifts_of_zero() -> u32
-    ensures { λ r. ⌜ r ≤ 8 ⌝ }
+fn arm_shifts() -> u32
+    ensures { λ r. ⌜ r ≤ 6 ⌝ }
 {
     let n = arm(Form::Bench, 0, 0xe1a0_1022, 0, b"mov\tr0, r2, lsr #0");
     let n = n + arm(Form::Sheet, 0, 0xe1a0_1022, 0, b"mov\tr1, r2, lsr #32");
     let n = n + arm(Form::Sheet, 0, 0xe1a0_1042, 0, b"mov\tr1, r2, asr #32");
     let n = n + arm(Form::Sheet, 0, 0xe1a0_1062, 0, b"mov\tr1, r2, rrx");
     let n = n + arm(Form::Sheet, 0, 0xe791_0062, 0, b"ldr\tr0, [r1, r2, rrx]");
-    let n = n + thumb(Form::Bench, 0, 0x0808, 0, b"LSR\tr0, r1, #0");
+    n + arm(Form::Sheet, 0, 0xe711_0062, 0, b"ldr\tr0, [r1, -r2, rrx]")
+}
+
+fn thumb_shifts() -> u32
+    ensures { λ r. ⌜ r ≤ 4 ⌝ }
+{
+    let n = thumb(Form::Bench, 0, 0x0808, 0, b"LSR\tr0, r1, #0");
     let n = n + thumb(Form::Sheet, 0, 0x0808, 0, b"LSR\tr0, r1, #32");
-    n + thumb(Form::Sheet, 0, 0x1008, 0, b"ASR\tr0, r1, #32")
+    let n = n + thumb(Form::Sheet, 0, 0x1008, 0, b"ASR\tr0, r1, #32");
+    n + thumb(Form::Sheet, 0, 0x0008, 0, b"LSL\tr0, r1, #0")
 }
 
 fn read_bench() -> u32
@@ -196,21 +203,28 @@ fn read_addresses() -> u32
     n + thumb_line(Form::Sheet, 0x100, b"b\t00000104", 4, 0)
 }
 
-fn read_shifts() -> u32
-    ensures { λ r. ⌜ r ≤ 8 ⌝ }
+fn read_arm_shifts() -> u32
+    ensures { λ r. ⌜ r ≤ 6 ⌝ }
 {
     let n = arm_line(Form::Bench, b"mov\tr0, r2, lsr #0", 0, 0xe1a0_0022);
     let n = n + arm_line(Form::Sheet, b"mov\tr1, r2, lsr #32", 0, 0xe1a0_1022);
     let n = n + arm_line(Form::Sheet, b"mov\tr1, r2, asr #32", 0, 0xe1a0_1042);
     let n = n + arm_line(Form::Sheet, b"mov\tr1, r2, rrx", 0, 0xe1a0_1062);
     let n = n + arm_line(Form::Sheet, b"ldr\tr0, [r1, r2, rrx]", 0, 0xe791_0062);
-    let n = n + thumb_line(Form::Bench, 0, b"LSR\tr0, r1, #0", 0, 0x0808);
-    let n = n + thumb_line(Form::Sheet, 0, b"LSR\tr0, r1, #32", 0, 0x0808);
-    n + thumb_line(Form::Sheet, 0, b"ASR\tr0, r1, #32", 0, 0x1008)
+    n + arm_line(Form::Sheet, b"ldr\tr0, [r1, -r2, rrx]", 0, 0xe711_0062)
 }
 
-// Shifts that no word has: on the sheet an amount of 0 but for LSL, and 32 for LSL and ROR.
-fn read_no_shifts() -> u32
+fn read_thumb_shifts() -> u32
+    ensures { λ r. ⌜ r ≤ 4 ⌝ }
+{
+    let n = thumb_line(Form::Bench, 0, b"LSR\tr0, r1, #0", 0, 0x0808);
+    let n = n + thumb_line(Form::Sheet, 0, b"LSR\tr0, r1, #32", 0, 0x0808);
+    let n = n + thumb_line(Form::Sheet, 0, b"ASR\tr0, r1, #32", 0, 0x1008);
+    n + thumb_line(Form::Sheet, 0, b"LSL\tr0, r1, #0", 0, 0x0008)
+}
+
+// Shifts that no sheet line has.
+fn read_no_sheet_shifts() -> u32
     ensures { λ r. ⌜ r ≤ 8 ⌝ }
 {
     let n = arm_line(Form::Sheet, b"mov\tr1, r2, lsr #0", 4, 0);
@@ -223,7 +237,7 @@ fn read_no_shifts() -> u32
     n + thumb_line(Form::Sheet, 0, b"LSR\tr0, r1, #0", 4, 0)
 }
 
-// The bench has neither 32 nor rrx.
+// Shifts that no bench line has.
 fn read_no_bench_shifts() -> u32
     ensures { λ r. ⌜ r ≤ 3 ⌝ }
 {
@@ -248,15 +262,17 @@ fn main() {
     let n = arm_bench()
         + arm_sheet()
         + thumb_both()
-        + shifts_of_zero()
+        + arm_shifts()
+        + thumb_shifts()
         + read_bench()
         + read_sheet()
         + read_addresses()
-        + read_shifts()
-        + read_no_shifts()
+        + read_arm_shifts()
+        + read_thumb_shifts()
+        + read_no_sheet_shifts()
         + read_no_bench_shifts()
         + read_thumb_lines();
     let at = put_dec(&mut out, 0, n);
-    let at = put_text(&mut out, at, b" of 78 answers differ\n");
+    let at = put_text(&mut out, at, b" of 82 answers differ\n");
     io::write_all(STDOUT_FILENO, part(&out, 0, at));
 }
