@@ -61,9 +61,12 @@ lsl0 (suc (suc (suc zero))) n h = sym (ne-eqb (3 * 32 + n) 0 (λ z. let y : 3 * 
 lsl0 (suc (suc (suc (suc k)))) n h = absurd (omega arith)
 
 -- ---- the words of a shifted register
+abbrev statedPieces : ℕ → Amount → Pieces
+statedPieces k (Places m) = piece (shiftName k) (text " #") (last (dec m))
+statedPieces k Rrx = last (text "rrx")
+
 abbrev amountPieces : ℕ → ℕ → Amount → Pieces
-amountPieces r k (Places m) = piece (regString r) (text ", ") (piece (shiftName k) (text " #") (last (dec m)))
-amountPieces r k Rrx = piece (regString r) (text ", ") (last (text "rrx"))
+amountPieces r k a = piece (regString r) (text ", ") (statedPieces k a)
 
 abbrev regPieces : ℕ → ℕ → ℕ → Pieces
 regPieces r k rs = piece (regString r) (text ", ") (piece (shiftName k) (text " ") (last (regString rs)))
@@ -174,23 +177,19 @@ shift-same form {n} {k} s =
     (λ e. let z = eqb-false (bitRange n 4 5) 1 e in rw (b, e, s .reg, s .shift, s .amount (omega arith)))
 
 -- their first is the register's, which begins with a letter
-amount-first : (r k : ℕ) (a : Amount) → firstOf (amountPieces r k a) ≡ regString r
-amount-first r k (Places m) = refl
-amount-first r k Rrx = refl
-
 pub shift-first : (form : Form) (n : ℕ) → firstOf (shiftPieces form n) ≡ regString (bitRange n 0 4)
-shift-first form n = shift-cases (λ q. firstOf q ≡ regString (bitRange n 0 4)) form n refl refl (amount-first (bitRange n 0 4) (bitRange n 5 7) (stated form n))
+shift-first form n = shift-cases (λ q. firstOf q ≡ regString (bitRange n 0 4)) form n refl refl refl
 
 pub shift-letter : (form : Form) (n : ℕ) → isNumber (word (spell (shiftPieces form n))) ≡ false
 shift-letter form n = rw (first-word (shiftPieces form n) (shift-good form n), shift-first form n) (reg-letter (bitRange n 0 4) (omega arith))
 
 -- there is one, and it has none of the marks that stand about it
-amount-there : (r k : ℕ) (a : Amount) → some (amountPieces r k a) ≡ true
-amount-there r k (Places m) = refl
-amount-there r k Rrx = refl
+amount-there : (k : ℕ) (a : Amount) → some (statedPieces k a) ≡ true
+amount-there k (Places m) = refl
+amount-there k Rrx = refl
 
 pub shift-there : (form : Form) (n : ℕ) → some (shiftPieces form n) ≡ true
-shift-there form n = shift-cases (λ q. some q ≡ true) form n refl refl (amount-there (bitRange n 0 4) (bitRange n 5 7) (stated form n))
+shift-there form n = shift-cases (λ q. some q ≡ true) form n refl refl (amount-there (bitRange n 5 7) (stated form n))
 
 amount-plain : (y r k : ℕ) (a : Amount) → has y (text ", ") ≡ false → has y (text " #") ≡ false → gapsHave y (amountPieces r k a) ≡ false
 amount-plain y r k (Places m) p q = rw (p, q)
