@@ -7,11 +7,11 @@ use Rattle.arm7tdmi.proofs.alu.BarrelShiftOpCode.sheet_amount.Tie as ti
 
 returns : tie.Need-returns
 unfolding sheetAmount
-returns c = rw (eq-eqb _ _ (c .before .if1 .taken)) (c .amount-of-zero .ensures)
+returns c = rw (eq-eqb (c .before .before .args .n) 0 (c .before .if1 .taken)) (c .amount-of-zero .ensures)
 
 returns-2 : tie.Need-returns-2
 unfolding sheetAmount
-returns-2 c = rw (ne-eqb _ _ (c .if1 .left))
+returns-2 c = rw (ne-eqb (c .before .args .n) 0 (c .if1 .left))
 
 pub sheet-amount-spec : {M : Type 1} → statement M
 sheet-amount-spec = tie.close (tie.spec (λ c κs. search needs) returns returns-2)
