@@ -216,16 +216,18 @@ pub struct ArmInstruction {
     pub fmt: ArmFormat,
     pub raw: u32,
     pub pc: Addr,
+    pub byte_length: u32,
 }
 
 impl ArmInstruction {
     pub fn decode(form: Form, raw: u32, addr: Addr) -> Self
-        ensures { λ r. ⌜ r ≡ record { fmt = armFormat form raw; raw = raw; pc = addr } ⌝ }
+        ensures { λ r. ⌜ r ≡ record { fmt = armFormat form raw; raw = raw; pc = addr; «byte_length» = 4 } ⌝ }
     {
         ArmInstruction {
             fmt: arm_format(form, raw),
             raw,
             pc: addr,
+            byte_length: 4,
         }
     }
 }

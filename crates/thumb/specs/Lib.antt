@@ -1,2 +1,4 @@
 pub mod Fields
 pub mod Kinds
+pub mod Pair
+pub mod Record

@@ -2,12 +2,15 @@
 ghost use mathlib.Core.Path.{_≡_};
 ghost use Prim.Native.Nat.{_<_};
 ghost use lib.ListN.{getD};
-ghost use Rattle.common.specs.Lists.{first};
+ghost use Rattle.common.specs.Lists.{first as firstPlace};
 ghost use Rattle.common.specs.Bits.{bit, bitRange};
 ghost use Rattle.arm7tdmi.specs.Alu.{barrelShiftOpCode};
 ghost use Rattle.arm7tdmi.specs.Cond.{armCond};
 ghost use Rattle.thumb.specs.Kinds.{thumbMet, thumbNone, thumbRows, thumbFirst, thumbFormat, thumbNumber};
 ghost use Rattle.thumb.specs.Fields.{opFormat3, opFormat5, thumbAluOp, thumbAluNumber, bcondOffset, branchOffset11, callOffset, bcondTarget, branchTarget, pcLoadAddress, callHalf, word8, sword7};
+ghost use Rattle.thumb.specs.Pair.{isFirst, isSecond, isPair, pairTarget};
+ghost use Rattle.thumb.specs.Record.{byteLength, decoded, halfwordsOf, leading};
+ghost use Rattle.thumb.specs.declared.Halfwords.the-variants.{One};
 use arm7tdmi::Form;
 use arm7tdmi::alu::BarrelShiftOpCode;
 use arm7tdmi::bit::bit;
@@ -201,7 +204,7 @@ fn thumb_rows(form: Form) -> [ThumbRow; 20]
 
 // Where the first row stands whose mask and value the word meets, or 20.
 fn thumb_place(rows: [ThumbRow; 20], raw: u16) -> usize
-    ensures { λ r. ⌜ r ≡ first (thumbMet raw) rows ⌝ }
+    ensures { λ r. ⌜ r ≡ firstPlace (thumbMet raw) rows ⌝ }
 {
     let mut i: usize = 0;
     while i < 20 {
@@ -244,22 +247,100 @@ pub fn thumb_format(form: Form, raw: u16) -> ThumbFormat
     thumb_first(thumb_rows(form), raw)
 }
 
+// Whether a halfword is the first half of a call, by its top bits.
+pub fn is_first_half(h: u16) -> bool
+    ensures { λ r. ⌜ r ≡ isFirst h ⌝ }
+{
+    bit_range(h as u32, 11, 16) == 0b11110
+}
+
+// Whether a halfword is the second half of a call.
+pub fn is_second_half(h: u16) -> bool
+    ensures { λ r. ⌜ r ≡ isSecond h ⌝ }
+{
+    bit_range(h as u32, 11, 16) == 0b11111
+}
+
+// Whether two halfwords are a call: a first half and then a second.
+pub fn is_pair(first: u16, second: u16) -> bool
+    ensures { λ r. ⌜ r ≡ isPair first second ⌝ }
+{
+    if is_first_half(first) {
+        return is_second_half(second);
+    }
+    false
+}
+
+// The halfwords of a decoded word: one, or the two of a call.
+pub enum Halfwords {
+    One(u16),
+    Two(u16, u16),
+}
+
+impl Halfwords {
+    // Of two halfwords: both, if they are a pair, and else the first alone.
+    fn of_two(first: u16, second: u16) -> Self
+        ensures { λ r. ⌜ r ≡ halfwordsOf first second ⌝ }
+    {
+        if is_pair(first, second) {
+            return Halfwords::Two(first, second);
+        }
+        Halfwords::One(first)
+    }
+
+    // The halfword that tells the kind: both of a pair tell the same.
+    fn leading(self) -> u16
+        ensures { λ r. ⌜ r ≡ leading self ⌝ }
+    {
+        match self {
+            Halfwords::One(h) => h,
+            Halfwords::Two(first, _) => first,
+        }
+    }
+
+    // How many bytes they take.
+    fn byte_length(self) -> u32
+        ensures { λ r. ⌜ r ≡ byteLength self ⌝ }
+    {
+        match self {
+            Halfwords::One(_) => 2,
+            Halfwords::Two(_, _) => 4,
+        }
+    }
+}
+
 // A decoded word.
 pub struct ThumbInstruction {
     pub fmt: ThumbFormat,
-    pub raw: u16,
+    pub raw: Halfwords,
     pub pc: Addr,
+    pub byte_length: u32,
 }
 
 impl ThumbInstruction {
-    pub fn decode(form: Form, raw: u16, addr: Addr) -> Self
-        ensures { λ r. ⌜ r ≡ record { fmt = thumbFormat form raw; raw = raw; pc = addr } ⌝ }
+    fn of_halfwords(form: Form, raw: Halfwords, addr: Addr) -> Self
+        ensures { λ r. ⌜ r ≡ decoded form raw addr ⌝ }
     {
         ThumbInstruction {
-            fmt: thumb_format(form, raw),
+            fmt: thumb_format(form, raw.leading()),
             raw,
             pc: addr,
+            byte_length: raw.byte_length(),
         }
+    }
+
+    // Decodes a halfword by itself.
+    pub fn decode(form: Form, raw: u16, addr: Addr) -> Self
+        ensures { λ r. ⌜ r ≡ decoded form (One raw) addr ⌝ }
+    {
+        ThumbInstruction::of_halfwords(form, Halfwords::One(raw), addr)
+    }
+
+    // Decodes two halfwords: a pair, or the first of them alone.
+    pub fn decode_pair(form: Form, first: u16, second: u16, addr: Addr) -> Self
+        ensures { λ r. ⌜ r ≡ decoded form (halfwordsOf first second) addr ⌝ }
+    {
+        ThumbInstruction::of_halfwords(form, Halfwords::of_two(first, second), addr)
     }
 }
 
@@ -522,6 +603,15 @@ pub fn branch_target(pc: Addr, raw: u32) -> Addr
 {
     let ahead = std::num::wrapping_add_u32(pc, 4);
     move_by(ahead, branch_offset(raw))
+}
+
+// Where a call pair at an address goes.
+pub fn pair_target(pc: Addr, first: u32, second: u32) -> Addr
+    ensures { λ r. ⌜ r ≡ pairTarget pc first second ⌝ }
+{
+    let behind = std::num::wrapping_add_u32(pc, 4);
+    let high = move_by(behind, call_offset(first));
+    std::num::wrapping_add_u32(high, offset11(second) * 2)
 }
 
 // The address that a load from pc reads.

@@ -1,0 +1,16 @@
+-- `thumb::is_pair` meets its contract. Assumes nothing.
+use borrow.Author.Needs.{needs}
+use Rattle.thumb.specs.Pair.{isPair}
+use Rattle.thumb.proofs.is_pair.Statement.{statement}
+use Rattle.thumb.proofs.is_pair.Tie as tie
+
+returns : tie.Need-returns
+unfolding isPair
+returns c = rw (← c .before .before .is-first-half .ensures, c .before .if1 .taken, ← c .is-second-half .ensures)
+
+returns-2 : tie.Need-returns-2
+unfolding isPair
+returns-2 c = rw (← c .before .is-first-half .ensures, c .if1 .left)
+
+pub is-pair-spec : {M : Type 1} → statement M
+is-pair-spec = tie.close (tie.spec (λ c κs. search needs) (λ c κs. search needs) returns returns-2)
