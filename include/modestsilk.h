@@ -3,18 +3,28 @@
  * Any word, address and buffer gets an answer; nothing has to be checked first.
  * A form of 0 is bench, every other number sheet. A print answers 0, or the
  * number of a refusal: 1 (condition 1111 where the condition is printed),
- * 2 (halfword transfer of type 00), 3 (the buffer is shorter than the line).
- * The length goes through the pointer and is 0 on a refusal; the bytes behind
- * the line, and on a refusal all bytes, keep their values. A line has from 5 to
- * 80 bytes and no end mark. A read takes any bytes and answers 0 with the lowest
- * word that prints just that line at that address, or 4 with word 0 where no word
- * does.
+ * 2 (halfword transfer of type 00), 3 (the buffer is shorter than the line), and
+ * of a call pair 5 (the halfwords are not a first half and then a second), which
+ * comes before 3. The length goes through the pointer and is 0 on a refusal; the
+ * bytes behind the line, and on a refusal all bytes, keep their values. A line
+ * has from 5 to 80 bytes and no end mark, that of a pair 13. A read takes any
+ * bytes and answers 0 with the lowest word that prints just that line at that
+ * address, or 4 with word 0 where no word does.
+ *
+ * A Thumb call is two halfwords, a first half (top bits 11110) and then a second
+ * (11111). silk_print_pair prints the two as one sheet line with the call's
+ * target; silk_print_thumb prints each by itself. silk_read_pair answers 0 with
+ * the one pair that prints a line at that address, or 4 with both halves 0.
+ * silk_unpaired answers 1 with the index of the earliest half of a run that lacks
+ * its partner (directly behind a first half, directly before a second), or 0 with
+ * index 0 where all are paired.
  *
  * What the pointers must be: line points to capacity bytes (a print) or length
- * bytes (a read), and may be NULL where that number is 0; length and word point
- * to memory for one value each, and are never NULL. What a call writes to must
- * not overlap anything else that it is given. The functions keep no state, so
- * any thread may call them at any time.
+ * bytes (a read), halfwords to count halfwords, and may be NULL where that number
+ * is 0; length, word, first, second and index point to memory for one value each,
+ * and are never NULL. What a call writes to must not overlap anything else that
+ * it is given. The functions keep no state, so any thread may call them at any
+ * time.
  *
  * Link with target/staticlib/libmodestsilk.a (rt staticlib modestsilk).
  */
@@ -79,6 +89,10 @@ uint32_t silk_print_thumb(uint32_t form, uint16_t word, uint32_t address, uint8_
 
 uint32_t silk_read_arm(uint32_t form, uint32_t address, const uint8_t *line, size_t length, uint32_t *word);
 uint32_t silk_read_thumb(uint32_t form, uint32_t address, const uint8_t *line, size_t length, uint16_t *word);
+
+uint32_t silk_print_pair(uint16_t first, uint16_t second, uint32_t address, uint8_t *line, size_t capacity, size_t *length);
+uint32_t silk_read_pair(uint32_t address, const uint8_t *line, size_t length, uint16_t *first, uint16_t *second);
+uint32_t silk_unpaired(const uint16_t *halfwords, size_t count, size_t *index);
 
 #ifdef __cplusplus
 }

@@ -1,6 +1,6 @@
 /* The worked lines, bench and sheet, through the C interface, into buffers that
  * are too short, exact and too long, with guard bytes around them and a page
- * without access behind them; and lines that are read back. */
+ * without access behind them; and lines that are read back. Call pairs among them. */
 #include <stdbool.h>
 #include <stdio.h>
 #include <stdlib.h>
@@ -11,7 +11,9 @@
 
 enum { PAGE = 4096, MIDDLE = 1024, GUARD = 0xa5 };
 
-enum set { ARM, THUMB };
+/* Of a call pair a word holds both halves, the first above. It has one line, so its
+ * answers are the same for all forms. */
+enum set { ARM, THUMB, PAIR };
 
 /* What a form answers: the number, and the line where it is 0. */
 struct answer {
@@ -21,6 +23,7 @@ struct answer {
 
 #define LINE(text) { 0, text }
 #define REFUSAL(number) { number, "" }
+#define BOTH(answer) answer, answer
 
 static const struct row {
     enum set set;
@@ -81,6 +84,23 @@ static const struct row {
     { ARM, 0xef000010, 0x100, LINE("swi\t#0x10"), LINE("swi\t#0x10") },
     { THUMB, 0xa001, 0x100, LINE("add\tr0, pc, #0x4"), LINE("add\tr0, pc, #0x4") },
     { THUMB, 0xf001, 0x100, LINE("bl\t#0x00001000"), LINE("bl\t#0x00001000") },
+    /* Call pairs, on the sheet; refusal 5 comes before 3. */
+    { PAIR, 0xf000f800, 0, BOTH(LINE("bl\t0x00000004")) },
+    { PAIR, 0xf7fffffe, 0x100, BOTH(LINE("bl\t0x00000100")) },
+    { PAIR, 0xf400f800, 0, BOTH(LINE("bl\t0xffc00004")) },
+    { PAIR, 0xf3ffffff, 0, BOTH(LINE("bl\t0x00400002")) },
+    { PAIR, 0xf000f800, 0xfffffffe, BOTH(LINE("bl\t0x00000002")) },
+    { PAIR, 0xf001f801, 1, BOTH(LINE("bl\t0x00001007")) },
+    { PAIR, 0xf800f000, 0, BOTH(REFUSAL(5)) },
+    { PAIR, 0xf000f000, 0, BOTH(REFUSAL(5)) },
+    { PAIR, 0xf800f800, 0, BOTH(REFUSAL(5)) },
+    { PAIR, 0xe000f800, 0, BOTH(REFUSAL(5)) },
+    { PAIR, 0xf000e800, 0, BOTH(REFUSAL(5)) },
+    /* Their halves alone. */
+    { THUMB, 0xf000, 0, BOTH(LINE("bl\t#0x00000000")) },
+    { THUMB, 0xf800, 0, BOTH(LINE("bl\t#0x00000000")) },
+    { THUMB, 0xf7ff, 0x100, BOTH(LINE("bl\t#0xfffff000")) },
+    { THUMB, 0xfffe, 0x102, BOTH(LINE("bl\t#0x00000ffc")) },
 };
 
 /* Words whose kind differs between the forms, and two others. */
@@ -175,6 +195,31 @@ static const struct reading {
     { THUMB, 0, "<Undefined>", 0xb100, 0xb100 },
     { THUMB, 0, "", NONE, NONE },
     { THUMB, 0, "cmp\tr0, r0\n", NONE, NONE },
+    { THUMB, 0, "bl\t0x00000004", NONE, NONE },
+    { PAIR, 0, "bl\t0x00000004", BOTH(0xf000f800) },
+    { PAIR, 0x100, "bl\t0x00000100", BOTH(0xf7fffffe) },
+    { PAIR, 0, "bl\t0xffc00004", BOTH(0xf400f800) },
+    { PAIR, 0, "bl\t0x00400002", BOTH(0xf3ffffff) },
+    { PAIR, 0xfffffffe, "bl\t0x00000002", BOTH(0xf000f800) },
+    { PAIR, 1, "bl\t0x00001007", BOTH(0xf001f801) },
+    { PAIR, 0, "bl\t0x00400004", BOTH(NONE) },
+    { PAIR, 0, "bl\t0xffc00002", BOTH(NONE) },
+    { PAIR, 0, "bl\t0x00000005", BOTH(NONE) },
+    { PAIR, 0, "bl\t#0x00000000", BOTH(NONE) },
+    { PAIR, 0, "bl\t#0x0000004", BOTH(NONE) },
+    { PAIR, 0, "bl\t0x0000004", BOTH(NONE) },
+    { PAIR, 0, "bl\t0x4", BOTH(NONE) },
+    { PAIR, 0, "bl\t0x000000004", BOTH(NONE) },
+    { PAIR, 0, "bl\t0x0000000A", BOTH(NONE) },
+    { PAIR, 0, "bl\t0X00000004", BOTH(NONE) },
+    { PAIR, 0, "bl 0x00000004", BOTH(NONE) },
+    { PAIR, 0, "b\t0x000000004", BOTH(NONE) },
+    { PAIR, 0, "bl\t0x00000004\n", BOTH(NONE) },
+    { PAIR, 0, "bl\t0x00000004 ", BOTH(NONE) },
+    { PAIR, 0, "bl\t", BOTH(NONE) },
+    { PAIR, 0, "", BOTH(NONE) },
+    { PAIR, 0, "<Undefined>", BOTH(NONE) },
+    { ARM, 0, "bl\t0x00000008", NONE, 0xeb000000 },
 };
 
 /* Bench is 0, sheet every other number. */
@@ -194,6 +239,19 @@ static void check(bool good, const char *what, uint32_t word, uint32_t form, siz
     }
 }
 
+static uint32_t print_word(const struct row *row, uint32_t form, uint8_t *line, size_t capacity, size_t *length)
+{
+    uint16_t half = (uint16_t)row->word;
+    switch (row->set) {
+    case ARM:
+        return silk_print_arm(form, row->word, row->address, line, capacity, length);
+    case THUMB:
+        return silk_print_thumb(form, half, row->address, line, capacity, length);
+    default:
+        return silk_print_pair(row->word >> 16, half, row->address, line, capacity, length);
+    }
+}
+
 /* Lends `capacity` bytes at a place of the page, and looks at the answer and at
  * every byte of the page. */
 static bool lend(uint8_t *page, size_t place, size_t capacity, const struct row *row, uint32_t form)
@@ -205,9 +263,7 @@ static bool lend(uint8_t *page, size_t place, size_t capacity, const struct row 
     size_t line_length = strlen(want.line);
     size_t length = SIZE_MAX;
     memset(page, GUARD, PAGE);
-    uint32_t number = row->set == ARM
-        ? silk_print_arm(form, row->word, row->address, page + place, capacity, &length)
-        : silk_print_thumb(form, (uint16_t)row->word, row->address, page + place, capacity, &length);
+    uint32_t number = print_word(row, form, page + place, capacity, &length);
     bool good = number == want.number && length == line_length;
     for (size_t i = 0; i < PAGE; i++) {
         bool inside = i >= place && i - place < line_length;
@@ -248,13 +304,19 @@ static void kind_numbers(void)
 static void read_as(enum set set, uint32_t form, uint32_t address, const uint8_t *line, size_t length, uint32_t want)
 {
     uint32_t word = UINT32_MAX;
+    uint16_t first = UINT16_MAX, second = UINT16_MAX;
     uint32_t number;
-    if (set == ARM) {
+    switch (set) {
+    case ARM:
         number = silk_read_arm(form, address, line, length, &word);
-    } else {
-        uint16_t half = UINT16_MAX;
-        number = silk_read_thumb(form, address, line, length, &half);
-        word = half;
+        break;
+    case THUMB:
+        number = silk_read_thumb(form, address, line, length, &second);
+        word = second;
+        break;
+    default:
+        number = silk_read_pair(address, line, length, &first, &second);
+        word = (uint32_t)first << 16 | second;
     }
     bool good = want == NONE ? number == 4 && word == 0 : number == 0 && word == want;
     check(good, "read", word, form, length);
@@ -272,7 +334,7 @@ static void reads(uint8_t *page)
             read_as(row->set, forms[f], row->address, line, length, forms[f] == SILK_BENCH ? row->bench : row->sheet);
         }
         memset(page, 'r', PAGE);
-        for (int set = ARM; set <= THUMB; set++) {
+        for (int set = ARM; set <= PAIR; set++) {
             read_as(set, forms[f], 0, page + PAGE - 81, 81, NONE);
             read_as(set, forms[f], 0, page, PAGE, NONE);
         }

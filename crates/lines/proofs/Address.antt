@@ -12,10 +12,15 @@ use Rattle.text.proofs.Within.{Within, loosely, prefixed-within}
 use Rattle.text.proofs.Word.{prefixed-wordy, wordy}
 use Rattle.text.specs.Digits.{value}
 
+-- on the sheet all are of one length
+pub sheet-within : (n : ℕ) → Within 10 10 (address Sheet n)
+unfolding address
+sheet-within n = prefixed-within 8 n (omega arith)
+
 pub address-within : (form : Form) (n : ℕ) → Within 3 10 (address form n)
 unfolding address
 address-within Bench n = prefixed-within 1 n (omega arith)
-address-within Sheet n = loosely (prefixed-within 8 n (omega arith)) (omega arith) (omega arith)
+address-within Sheet n = loosely (sheet-within n) (omega arith) (omega arith)
 
 pub address-wordy : (form : Form) (n : ℕ) → wordy (address form n) ≡ true
 unfolding address

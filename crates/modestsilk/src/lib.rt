@@ -7,12 +7,20 @@ ghost use Rattle.arm_print.specs.Print.{armLine};
 ghost use Rattle.arm_read.specs.Answer as Arm;
 ghost use Rattle.thumb_read.specs.Answer as Thumb;
 ghost use Rattle.thumb_print.specs.Print.{thumbLine};
+ghost use Rattle.pairs.specs.Print.{pairLine};
+ghost use Rattle.pairs.specs.Read as Pair;
+ghost use Rattle.pairs.specs.Run.{pairingIndex, pairingNumber, unpaired};
 ghost use Rattle.modestsilk.specs.Numbers.{formOf};
 use arm::arm_format;
 use arm_print::print_arm;
 use arm_read::ArmRead;
 use arm_read::read_arm;
 use arm7tdmi::Form;
+use pairs::print::print_pair;
+use pairs::read::PairRead;
+use pairs::read::read_pair;
+use pairs::run::Pairing;
+use pairs::run::unpaired;
 use thumb::thumb_format;
 use thumb_print::print_thumb;
 use thumb_read::ThumbRead;
@@ -107,6 +115,63 @@ pub extern "C" fn silk_read_thumb(form: u32, address: u32, line: &[u8], word: &m
         ThumbRead::Nothing => {
             *word = 0;
             4
+        }
+    }
+}
+
+// The sheet line of a call pair into a buffer, its length behind the pointer; the answer is 0, 5 where the halfwords are no pair, or 3.
+#[no_mangle]
+pub extern "C" fn silk_print_pair(
+    first: u16,
+    second: u16,
+    address: u32,
+    line: &mut [u8],
+    length: &mut usize,
+) -> u32
+    ensures { λ r. ⌜ printed (pairLine address first second) (now (line .entry)) ≡ (record { number = r; length = now (length .exit) }, now (line .exit)) ⌝ }
+{
+    let p = print_pair(first, second, address, line);
+    *length = p.length;
+    p.number
+}
+
+// The pair that prints a line at an address, behind the pointers; the answer is 0, or 4 with both halves 0 where there is none.
+#[no_mangle]
+pub extern "C" fn silk_read_pair(
+    address: u32,
+    line: &[u8],
+    first: &mut u16,
+    second: &mut u16,
+) -> u32
+    ensures { λ r. ⌜ (r ≡ Pair.readNumber (Pair.pairAnswer address (now (line .entry)))) × (now (first .exit) ≡ Pair.readFirst (Pair.pairAnswer address (now (line .entry)))) × (now (second .exit) ≡ Pair.readSecond (Pair.pairAnswer address (now (line .entry)))) ⌝ }
+{
+    match read_pair(address, line) {
+        PairRead::Halves(a, b) => {
+            *first = a;
+            *second = b;
+            0
+        }
+        PairRead::Nothing => {
+            *first = 0;
+            *second = 0;
+            4
+        }
+    }
+}
+
+// The earliest half of a run that lacks its partner: 1 with its index behind the pointer, or 0 with index 0 where all are paired.
+#[no_mangle]
+pub extern "C" fn silk_unpaired(halfwords: &[u16], index: &mut usize) -> u32
+    ensures { λ r. ⌜ (r ≡ pairingNumber (unpaired (now (halfwords .entry)))) × (now (index .exit) ≡ pairingIndex (unpaired (now (halfwords .entry)))) ⌝ }
+{
+    match unpaired(halfwords) {
+        Pairing::Lacks(i) => {
+            *index = i;
+            1
+        }
+        Pairing::AllPaired => {
+            *index = 0;
+            0
         }
     }
 }

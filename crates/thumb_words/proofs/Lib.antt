@@ -1,4 +1,5 @@
 pub mod Parts
 pub mod Laws
+pub mod Halves
 pub mod Words
 pub mod Rows

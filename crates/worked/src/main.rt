@@ -1,10 +1,15 @@
-// The worked lines and the traps of the scope paper, through the public operations: how many answers differ from it.
+// The worked lines and the traps of the papers, through the public operations: how many answers differ from them.
 ghost use Prim.Native.Nat.{_≤_};
 use arm_print::print_arm;
 use arm_read::ArmRead;
 use arm_read::read_arm;
 use arm7tdmi::Form;
 use libc::STDOUT_FILENO;
+use pairs::print::print_pair;
+use pairs::read::PairRead;
+use pairs::read::read_pair;
+use pairs::run::Pairing;
+use pairs::run::unpaired;
 use text::put::part;
 use text::put::put_dec;
 use text::put::put_text;
@@ -75,6 +80,36 @@ fn thumb_line(form: Form, address: u32, line: &[u8], number: u32, word: u32) -> 
     match read_thumb(form, address, line) {
         ThumbRead::Word(w) => unlike(0, w as u32, number, word),
         ThumbRead::Nothing => unlike(4, 0, number, word),
+    }
+}
+
+// What two halfwords print as a call pair at an address.
+fn pair(address: u32, first: u16, second: u16, number: u32, line: &[u8]) -> u32
+    ensures { λ r. ⌜ r ≤ 1 ⌝ }
+{
+    let mut buf = [0u8; 80];
+    let p = print_pair(first, second, address, &mut buf);
+    let n = p.length;
+    differs(p.number, part(&buf, 0, n), number, line)
+}
+
+// What a line reads as, as a call pair: the halves are given as one number, the first half above.
+fn pair_line(address: u32, line: &[u8], number: u32, halves: u32) -> u32
+    ensures { λ r. ⌜ r ≤ 1 ⌝ }
+{
+    match read_pair(address, line) {
+        PairRead::Halves(a, b) => unlike(0, a as u32 * 0x1_0000 + b as u32, number, halves),
+        PairRead::Nothing => unlike(4, 0, number, halves),
+    }
+}
+
+// Whether a run has a half that lacks its partner, and the index of the earliest.
+fn run(halfwords: &[u16], lacking: bool, index: usize) -> u32
+    ensures { λ r. ⌜ r ≤ 1 ⌝ }
+{
+    match unpaired(halfwords) {
+        Pairing::Lacks(i) => { if lacking & (i == index) { 0 } else { 1 } }
+        Pairing::AllPaired => { if lacking { 1 } else { 0 } }
     }
 }
 
@@ -257,6 +292,50 @@ fn read_thumb_lines() -> u32
     n + thumb_line(Form::Bench, 0, b"ROR\tr0, r0, #0", 4, 0)
 }
 
+// A Thumb call on one line. The halves in the wrong order are refused with 5.
+fn pairs() -> u32
+    ensures { λ r. ⌜ r ≤ 6 ⌝ }
+{
+    let n = pair(0, 0xf000, 0xf800, 0, b"bl\t0x00000004");
+    let n = n + pair(0x100, 0xf7ff, 0xfffe, 0, b"bl\t0x00000100");
+    let n = n + pair(0, 0xf400, 0xf800, 0, b"bl\t0xffc00004");
+    let n = n + pair(0xffff_fffe, 0xf000, 0xf800, 0, b"bl\t0x00000002");
+    let n = n + pair(0, 0xf3ff, 0xffff, 0, b"bl\t0x00400002");
+    n + pair(0, 0xf800, 0xf000, 5, b"")
+}
+
+fn read_pairs() -> u32
+    ensures { λ r. ⌜ r ≤ 5 ⌝ }
+{
+    let n = pair_line(0, b"bl\t0x00000004", 0, 0xf000_f800);
+    let n = n + pair_line(0x100, b"bl\t0x00000100", 0, 0xf7ff_fffe);
+    let n = n + pair_line(0, b"bl\t0xffc00004", 0, 0xf400_f800);
+    let n = n + pair_line(0xffff_fffe, b"bl\t0x00000002", 0, 0xf000_f800);
+    n + pair_line(0, b"bl\t0x00400002", 0, 0xf3ff_ffff)
+}
+
+// Lines of no pair: a lone half's, one too far ahead, one too far back, an odd distance, seven digits.
+fn read_no_pairs() -> u32
+    ensures { λ r. ⌜ r ≤ 5 ⌝ }
+{
+    let n = pair_line(0, b"bl\t#0x00000000", 4, 0);
+    let n = n + pair_line(0, b"bl\t0x00400004", 4, 0);
+    let n = n + pair_line(0, b"bl\t0xffc00002", 4, 0);
+    let n = n + pair_line(0, b"bl\t0x00000005", 4, 0);
+    n + pair_line(0, b"bl\t0x0000004", 4, 0)
+}
+
+// Runs of halfwords, by first and second halves: F F S, F S S, F, S, and one where all are paired.
+fn runs() -> u32
+    ensures { λ r. ⌜ r ≤ 5 ⌝ }
+{
+    let n = run(&[0xf000, 0xf000, 0xf800], true, 0);
+    let n = n + run(&[0xf000, 0xf800, 0xf800], true, 2);
+    let n = n + run(&[0xf000], true, 0);
+    let n = n + run(&[0xf800], true, 0);
+    n + run(&[0x4770, 0xf000, 0xf800, 0xf7ff, 0xfffe], false, 0)
+}
+
 fn main() {
     let mut out = [0u8; 64];
     let n = arm_bench()
@@ -271,8 +350,12 @@ fn main() {
         + read_thumb_shifts()
         + read_no_sheet_shifts()
         + read_no_bench_shifts()
-        + read_thumb_lines();
+        + read_thumb_lines()
+        + pairs()
+        + read_pairs()
+        + read_no_pairs()
+        + runs();
     let at = put_dec(&mut out, 0, n);
-    let at = put_text(&mut out, at, b" of 82 answers differ\n");
+    let at = put_text(&mut out, at, b" of 103 answers differ\n");
     io::write_all(STDOUT_FILENO, part(&out, 0, at));
 }

@@ -14,7 +14,7 @@ use std::time::Instant;
 use arm7tdmi::InstructionDecoder;
 use arm7tdmi::arm::{ArmFormat, ArmInstruction};
 use arm7tdmi::thumb::{ThumbFormat, ThumbInstruction};
-use silk::{BENCH, SHEET};
+use silk::{BENCH, Pair, SHEET};
 
 /// Passes over a list; the quickest counts.
 const PASSES: usize = 15;
@@ -102,6 +102,17 @@ fn shuffled(mut list: Vec<(u16, u32)>) -> Vec<(u16, u32)> {
     list
 }
 
+/// Random call pairs, at random addresses.
+fn pairs() -> Vec<(Pair, u32)> {
+    (0..WORDS as u64)
+        .map(silk::random)
+        .map(|number| {
+            let halves = (0xf000 + number as u16 % 2048, 0xf800 + (number >> 16) as u16 % 2048);
+            (halves, (number >> 32) as u32)
+        })
+        .collect()
+}
+
 fn arm_operations(list: &[(u32, u32)]) {
     let (mut buffer, mut line) = ([0; 128], String::new());
     for (form, name) in [(BENCH, "bench"), (SHEET, "sheet")] {
@@ -138,6 +149,32 @@ fn thumb_operations(order: &str, list: &[(u16, u32)]) {
     }
 }
 
+/// The line of a pair, beside the Rust's lines of its halves.
+fn pair_operations(list: &[(Pair, u32)]) {
+    let (mut buffer, mut line) = ([0; 128], String::new());
+    operation(
+        "print | call pairs, random | sheet",
+        list,
+        |pair, address| _ = black_box(silk::print_pair(pair, address, &mut buffer)),
+        |pair, address| {
+            display(ThumbInstruction::decode(pair.0, address), &mut line);
+            display(ThumbInstruction::decode(pair.1, address.wrapping_add(2)), &mut line);
+        },
+    );
+}
+
+/// The time of a check of a run of pairs, for each halfword.
+fn run_of_pairs(list: &[(Pair, u32)]) {
+    let run: Vec<u16> = list.iter().flat_map(|row| [row.0.0, row.0.1]).collect();
+    assert_eq!(silk::unpaired(&run), (0, 0), "all are paired");
+    let mut least = Least::NONE;
+    for _ in 0..PASSES {
+        least.time(|| _ = black_box(silk::unpaired(black_box(&run))), || ());
+    }
+    let each = 1e9 * least.0 / run.len() as f64;
+    println!("\nA check of a run of {} halfwords: {each:.2} ns for each.", run.len());
+}
+
 /// Lines as they are printed, and damaged.
 const LINES: [(&str, fn(&mut Vec<u8>)); 4] = [
     ("as printed", |_| ()),
@@ -152,13 +189,14 @@ const LINES: [(&str, fn(&mut Vec<u8>)); 4] = [
 /// Measures the read of the lines of some words, beside their print.
 fn reads<W: Copy, R>(
     set: &str,
+    forms: &[(u32, &str)],
     list: &[(W, u32)],
     print: fn(u32, W, u32, &mut [u8]) -> (u32, usize),
     read: fn(u32, u32, &[u8]) -> R,
 ) {
     let mut buffer = [0; 128];
     let places: Vec<(usize, u32)> = (0..list.len()).map(|i| (i, list[i].1)).collect();
-    for (form, name) in [(BENCH, "bench"), (SHEET, "sheet")] {
+    for &(form, name) in forms {
         for (state, damage) in LINES {
             let lines: Vec<Vec<u8>> = list
                 .iter()
@@ -212,22 +250,34 @@ fn main() -> io::Result<()> {
     let arm = arm_words();
     let thumb = thumb_words();
     let mixed = shuffled(thumb.clone());
+    let calls = pairs();
+    let both = [(BENCH, "bench"), (SHEET, "sheet")];
 
     println!("| operation | set, order | form | ours, ns | the Rust, ns | ours / the Rust |");
     println!("|---|---|---|---|---|---|");
     arm_operations(&arm);
     thumb_operations("in order", &thumb);
     thumb_operations("random", &mixed);
+    pair_operations(&calls);
 
     println!("\n| set, order | form | line | read, ns | print, ns | read / print |");
     println!("|---|---|---|---|---|---|");
-    reads("ARM, random", &arm[..ROWS], silk::print_arm, silk::read_arm);
+    reads("ARM, random", &both, &arm[..ROWS], silk::print_arm, silk::read_arm);
     reads(
         "Thumb, random",
+        &both,
         &mixed[..ROWS],
         silk::print_thumb,
         silk::read_thumb,
     );
+    reads(
+        "call pairs, random",
+        &both[1..],
+        &calls[..ROWS],
+        |_, pair, address, line| silk::print_pair(pair, address, line),
+        |_, address, line| silk::read_pair(address, line),
+    );
+    run_of_pairs(&calls);
 
     let programs: Vec<String> = env::args().skip(1).collect();
     let [ours, rust] = &programs[..] else {

@@ -35,6 +35,22 @@ mod c {
             length: usize,
             word: *mut u16,
         ) -> u32;
+        pub fn silk_print_pair(
+            first: u16,
+            second: u16,
+            address: u32,
+            line: *mut u8,
+            capacity: usize,
+            length: *mut usize,
+        ) -> u32;
+        pub fn silk_read_pair(
+            address: u32,
+            line: *const u8,
+            length: usize,
+            first: *mut u16,
+            second: *mut u16,
+        ) -> u32;
+        pub fn silk_unpaired(halfwords: *const u16, count: usize, index: *mut usize) -> u32;
     }
 }
 
@@ -76,6 +92,37 @@ pub fn read_thumb(form: u32, address: u32, line: &[u8]) -> (u32, u16) {
     // SAFETY: the line and the word are lent for the call alone.
     let number = unsafe { c::silk_read_thumb(form, address, line.as_ptr(), line.len(), &mut word) };
     (number, word)
+}
+
+/// The two halves of a call.
+pub type Pair = (u16, u16);
+
+/// Lends the buffer; gives the number and the length.
+pub fn print_pair(pair: Pair, address: u32, line: &mut [u8]) -> (u32, usize) {
+    let mut length = usize::MAX;
+    let (start, capacity) = (line.as_mut_ptr(), line.len());
+    // SAFETY: the buffer and the length are lent for the call alone.
+    let number =
+        unsafe { c::silk_print_pair(pair.0, pair.1, address, start, capacity, &mut length) };
+    (number, length)
+}
+
+/// Lends the line; gives the number and the halves.
+pub fn read_pair(address: u32, line: &[u8]) -> (u32, Pair) {
+    let mut pair = (u16::MAX, u16::MAX);
+    let (start, length) = (line.as_ptr(), line.len());
+    // SAFETY: the line and the halves are lent for the call alone.
+    let number =
+        unsafe { c::silk_read_pair(address, start, length, &mut pair.0, &mut pair.1) };
+    (number, pair)
+}
+
+/// Lends the run; gives the number and the index.
+pub fn unpaired(run: &[u16]) -> (u32, usize) {
+    let mut index = usize::MAX;
+    // SAFETY: the run and the index are lent for the call alone.
+    let number = unsafe { c::silk_unpaired(run.as_ptr(), run.len(), &mut index) };
+    (number, index)
 }
 
 /// splitmix64: the random number at a place of its sequence.

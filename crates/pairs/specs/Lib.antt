@@ -1,0 +1,4 @@
+pub mod Print
+pub mod Read
+pub mod Run
+pub mod Demand

@@ -1,0 +1,41 @@
+-- The lines, reads and runs of call pairs are what the definitions give. Assumes nothing.
+use Prim.Native.Nat.{_^_}
+use lib.ListN.{drop}
+use mathlib.Core.Bool.{cond}
+use mathlib.Core.List.{List, [], _∷_, map}
+use mathlib.Core.Path.{_≡_, _∙_, refl}
+use Rattle.arm7tdmi.specs.Signed.{extended}
+use Rattle.common.specs.Lists.{first, same}
+use Rattle.common.specs.Lowest.{lowest}
+use Rattle.lines.specs.Address.{address}
+use Rattle.pairs.proofs.Halves.{firstFor, secondFor}
+use Rattle.pairs.proofs.Reading.{candidate, read-candidate, shown}
+use Rattle.pairs.specs.Print.{pairLine, pairText}
+use Rattle.pairs.specs.Read.{answerOf, pairAnswer}
+use Rattle.pairs.specs.Run.{firstUnpaired, lacks, unpaired}
+use Rattle.text.specs.Digits.{digitValue, digits, hex, prefixed, valueFrom}
+use Rattle.thumb.specs.Pair.{isFirst, isPair, isSecond, pairTarget}
+use Rattle.worked.specs.Calls.{Input, Output, Row, gives, givenRow, halves, pair, pairRead, run, table}
+
+-- what they give, with the reader's law in place of the search
+abbrev byLaw : Input → Output
+byLaw (pair a b p) = gives (pair a b p)
+byLaw (pairRead l p) = halves (answerOf (cond (same (pairText p (firstFor (shown p l)) (secondFor (shown p l))) l) (candidate p l) (2 ^ 32)))
+byLaw (run hs) = gives (run hs)
+
+law : (i : Input) → gives i ≡ byLaw i
+unfolding pairAnswer
+law (pair a b p) = refl
+law (pairRead l p) = rw (read-candidate p l)
+law (run hs) = refl
+
+rows-law : (l : List Row) → map (givenRow gives) l ≡ map (givenRow byLaw) l
+rows-law [] = refl
+rows-law (r ∷ l) = rw (law (r .input), rows-law l)
+
+computed : map (givenRow byLaw) table ≡ table
+unfolding pairLine pairText isPair isFirst isSecond pairTarget extended address prefixed hex digits valueFrom digitValue first same unpaired firstUnpaired lowest lacks
+computed = refl
+
+pub calls : map (givenRow gives) table ≡ table
+calls = rows-law table ∙ computed
