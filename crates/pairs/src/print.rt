@@ -14,13 +14,9 @@ use thumb::pair_target;
 pub fn put_pair(buf: &mut [u8], pc: u32, first: u16, second: u16) -> usize
     ensures { λ r. ⌜ Wrote (now (buf .entry)) 0 (pairText pc first second) (now (buf .exit)) r ⌝ }
 {
+    let target = pair_target(pc, first as u32, second as u32);
     let at = put_text(buf, 0, b"bl\t");
-    put_address(
-        buf,
-        at,
-        Form::Sheet,
-        pair_target(pc, first as u32, second as u32),
-    )
+    put_address(buf, at, Form::Sheet, target)
 }
 
 // Prints the line of two halfwords at an address into a buffer. It has 13 bytes.

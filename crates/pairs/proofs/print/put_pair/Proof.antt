@@ -9,8 +9,8 @@ returns : tie.Need-returns
 unfolding pairText
 returns c =
     let c1 = c .before .before in
-    let c0 = c1 .before .before .before .before .before in
-    rw (← c1 .before .pair-target .ensures) (c0 .put-text .ensures ⨾ c1 .put-address .ensures)
+    let c0 = c1 .before .before .before .before in
+    rw (← c0 .before .before .before .pair-target .ensures) (c0 .put-text .ensures ⨾ c1 .put-address .ensures)
 
 pub put-pair-spec : {M : Type 1} → statement M
-put-pair-spec = tie.close (tie.spec (λ c. search needs) (λ c κs. search needs) (λ c κs. search needs) (λ c κs. search needs) (λ c. kept (returns c)) returns)
+put-pair-spec = tie.close (tie.spec (λ c κs. search needs) (λ c. search needs) (λ c κs. search needs) (λ c κs. search needs) (λ c. kept (returns c)) returns)
