@@ -60,26 +60,31 @@ static void all_pairs(void)
     }
 }
 
-/* Two halfwords of which one is a half, and no pair: 5, with a buffer and without. */
+/* Two halfwords that may be no pair: then 5, with a buffer and without. */
+static void refusal(uint16_t first, uint16_t second, bool pair)
+{
+    uint8_t buffer[LENGTH], guard[LENGTH];
+    size_t length = SIZE_MAX;
+    memset(buffer, GUARD, LENGTH);
+    memset(guard, GUARD, LENGTH);
+    uint32_t number = silk_print_pair(first, second, first, buffer, LENGTH, &length);
+    check(pair ? number == 0 && length == LENGTH : number == 5 && length == 0 && memcmp(buffer, guard, LENGTH) == 0,
+          "kind", first, second, first);
+    length = SIZE_MAX;
+    number = silk_print_pair(first, second, first, NULL, 0, &length);
+    check(number == (pair ? 3 : 5) && length == 0, "no buffer", first, second, first);
+}
+
+/* Every halfword before a second half, and behind a first. */
 static void refusals(void)
 {
     for (uint32_t n = 0; n < 1 << 16; n++) {
-        uint16_t half = (uint16_t)n;
-        uint16_t halves[2][2] = { { half, 0xf800 }, { 0xf000, half } };
-        bool pairs[2] = { n >> 11 == 0x1e, n >> 11 == 0x1f };
-        for (int i = 0; i < 2; i++) {
-            uint8_t buffer[LENGTH] = { GUARD };
-            size_t length = SIZE_MAX;
-            uint32_t number = silk_print_pair(halves[i][0], halves[i][1], n, buffer, LENGTH, &length);
-            check(pairs[i] ? number == 0 && length == LENGTH : number == 5 && length == 0 && buffer[0] == GUARD, "kind",
-                  halves[i][0], halves[i][1], n);
-            number = silk_print_pair(halves[i][0], halves[i][1], n, NULL, 0, &length);
-            check(number == (pairs[i] ? 3 : 5) && length == 0, "no buffer", halves[i][0], halves[i][1], n);
-        }
+        refusal((uint16_t)n, 0xf800, n >> 11 == 0x1e);
+        refusal(0xf000, (uint16_t)n, n >> 11 == 0x1f);
     }
 }
 
-/* Every target at some addresses that no pair reaches: 4. */
+/* Targets at random distances: 4 where no pair reaches them. */
 static void out_of_reach(void)
 {
     for (uint32_t n = 0; n < 1 << 20; n++) {

@@ -9,7 +9,7 @@ use Rattle.arm7tdmi.specs.Signed.{extended}
 use Rattle.common.proofs.Tests.{and-left, and-right, by-test}
 use Rattle.common.specs.Bits.{bitRange}
 use Rattle.thumb.specs.Pair.{isFirst, isPair, isSecond, pairTarget}
-use Rattle.pairs.specs.Read.{distance}
+use Rattle.pairs.specs.Read.{distance, firstFor, secondFor}
 
 -- no halfword is a half of either kind
 pub not-both : (h : ℕ) → isFirst h ≡ true → isSecond h ≡ false
@@ -26,12 +26,6 @@ unfolding isSecond
 second-field h l e = let f = eqb-true (bitRange h 11 16) 31 e in omega (arith, f)
 
 -- the halves for a distance are a pair
-abbrev pub firstFor : ℕ → ℕ
-firstFor d = 0xf000 + d / 4096 % 2048
-
-abbrev pub secondFor : ℕ → ℕ
-secondFor d = 0xf800 + d / 2 % 2048
-
 pub pair-for : (d : ℕ) → isPair (firstFor d) (secondFor d) ≡ true
 unfolding isPair isFirst isSecond
 pair-for d = rw (eq-eqb (bitRange (firstFor d) 11 16) 30 (omega arith), eq-eqb (bitRange (secondFor d) 11 16) 31 (omega arith))

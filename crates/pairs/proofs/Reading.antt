@@ -12,9 +12,9 @@ use Rattle.lines.specs.Answer.{line}
 use Rattle.reading.proofs.Demand.{candidate-reads, none-read}
 use Rattle.text.specs.Digits.{value}
 use Rattle.pairs.specs.Print.{pairLine, pairText}
-use Rattle.pairs.specs.Read.{distance, joined, joinedLine, pairAnswer, readPair}
+use Rattle.pairs.specs.Read.{distance, firstFor, joined, joinedLine, pairAnswer, readPair, secondFor}
 use Rattle.pairs.specs.declared.read.PairRead.the-variants.{Halves, Nothing}
-use Rattle.pairs.proofs.Halves.{firstFor, halves-back, pair-for, secondFor}
+use Rattle.pairs.proofs.Halves.{halves-back, pair-for}
 use Rattle.pairs.proofs.Printing.{is-printed, pair-length, pair-prints, target-back}
 
 -- two halfwords are the parts of the number that they make

@@ -46,3 +46,10 @@ readSecond Nothing = 0
 -- how far a target is from the address behind a pair at p
 abbrev pub distance : ℕ → ℕ → ℕ
 distance p target = moved target (2 ^ 32 - moved p 4)
+
+-- the halves of a call over a distance, if there is one
+abbrev pub firstFor : ℕ → ℕ
+firstFor d = 0xf000 + d / 4096 % 2048
+
+abbrev pub secondFor : ℕ → ℕ
+secondFor d = 0xf800 + d / 2 % 2048

@@ -1,9 +1,8 @@
 // Reading the line of a call pair back. The halves for the distance that it shows are printed, and compared with it.
 ghost use mathlib.Core.Path.{_≡_};
-ghost use Prim.Native.Nat.{_+_, _/_, _%_};
 ghost use Rattle.common.specs.Lists.{same};
 ghost use Rattle.pairs.specs.Print.{pairText};
-ghost use Rattle.pairs.specs.Read.{distance, pairAnswer};
+ghost use Rattle.pairs.specs.Read.{distance, firstFor, secondFor, pairAnswer};
 use crate::print::put_pair;
 use text::read::equal;
 use text::read::read_hex;
@@ -23,13 +22,13 @@ fn distance(pc: u32, target: u32) -> u32
 
 // The halves of a call over a distance, if there is one.
 fn first_for(d: u32) -> u16
-    ensures { λ r. ⌜ r ≡ 0xf000 + d / 4096 % 2048 ⌝ }
+    ensures { λ r. ⌜ r ≡ firstFor d ⌝ }
 {
     (0xf000 + d / 4096 % 2048) as u16
 }
 
 fn second_for(d: u32) -> u16
-    ensures { λ r. ⌜ r ≡ 0xf800 + d / 2 % 2048 ⌝ }
+    ensures { λ r. ⌜ r ≡ secondFor d ⌝ }
 {
     (0xf800 + d / 2 % 2048) as u16
 }

@@ -318,6 +318,7 @@ pub struct ThumbInstruction {
 }
 
 impl ThumbInstruction {
+    // The record of the halfwords of a word.
     fn of_halfwords(form: Form, raw: Halfwords, addr: Addr) -> Self
         ensures { λ r. ⌜ r ≡ decoded form raw addr ⌝ }
     {

@@ -8,24 +8,26 @@ use Rattle.arm7tdmi.specs.Signed.{extended}
 use Rattle.common.specs.Lists.{first, same}
 use Rattle.common.specs.Lowest.{lowest}
 use Rattle.lines.specs.Address.{address}
-use Rattle.pairs.proofs.Halves.{firstFor, secondFor}
+use Rattle.lines.specs.Answer.{printed}
 use Rattle.pairs.proofs.Reading.{candidate, read-candidate, shown}
 use Rattle.pairs.specs.Print.{pairLine, pairText}
-use Rattle.pairs.specs.Read.{answerOf, pairAnswer}
+use Rattle.pairs.specs.Read.{answerOf, firstFor, pairAnswer, secondFor}
 use Rattle.pairs.specs.Run.{firstUnpaired, lacks, unpaired}
 use Rattle.text.specs.Digits.{digitValue, digits, hex, prefixed, valueFrom}
 use Rattle.thumb.specs.Pair.{isFirst, isPair, isSecond, pairTarget}
-use Rattle.worked.specs.Calls.{Input, Output, Row, gives, givenRow, halves, pair, pairRead, run, table}
+use Rattle.worked.specs.Calls.{Input, Output, Row, gives, givenRow, halves, pair, pairInto, pairRead, run, table}
 
 -- what they give, with the reader's law in place of the search
 abbrev byLaw : Input → Output
 byLaw (pair a b p) = gives (pair a b p)
+byLaw (pairInto a b p l) = gives (pairInto a b p l)
 byLaw (pairRead l p) = halves (answerOf (cond (same (pairText p (firstFor (shown p l)) (secondFor (shown p l))) l) (candidate p l) (2 ^ 32)))
 byLaw (run hs) = gives (run hs)
 
 law : (i : Input) → gives i ≡ byLaw i
 unfolding pairAnswer
 law (pair a b p) = refl
+law (pairInto a b p l) = refl
 law (pairRead l p) = rw (read-candidate p l)
 law (run hs) = refl
 
@@ -34,7 +36,7 @@ rows-law [] = refl
 rows-law (r ∷ l) = rw (law (r .input), rows-law l)
 
 computed : map (givenRow byLaw) table ≡ table
-unfolding pairLine pairText isPair isFirst isSecond pairTarget extended address prefixed hex digits valueFrom digitValue first same unpaired firstUnpaired lowest lacks
+unfolding printed pairLine pairText isPair isFirst isSecond pairTarget extended address prefixed hex digits valueFrom digitValue first same unpaired firstUnpaired lowest lacks
 computed = refl
 
 pub calls : map (givenRow gives) table ≡ table

@@ -3,7 +3,8 @@ use mathlib.Core.List.{List, [], _∷_}
 use Prim.Native.Nat.{ℕ}
 use Prim.Native.String.{String}
 use Rattle.text.specs.Text.{text}
-use Rattle.lines.specs.Answer.{Answer, refused, line}
+use Rattle.lines.specs.Answer.{Answer, refused, line, refusal, printed}
+use Rattle.lines.specs.declared.Printed.{Printed}
 use Rattle.pairs.specs.Print.{pairLine}
 use Rattle.pairs.specs.Read.{pairAnswer}
 use Rattle.pairs.specs.Run.{unpaired}
@@ -12,14 +13,16 @@ use Rattle.pairs.specs.declared.read.PairRead.the-variants.{Halves, Nothing}
 use Rattle.pairs.specs.declared.run.Pairing.{Pairing}
 use Rattle.pairs.specs.declared.run.Pairing.the-variants.{Lacks, AllPaired}
 
--- two halfwords and their address, a line and its address, or a run
+-- two halfwords and their address, the same with what a lent buffer holds, a line and its address, or a run
 pub data Input : Type 0 where
   pair : ℕ → ℕ → ℕ → Input
+  pairInto : ℕ → ℕ → ℕ → List ℕ → Input
   pairRead : List ℕ → ℕ → Input
   run : List ℕ → Input
 
 pub data Output : Type 0 where
-  printed : Answer → Output
+  shown : Answer → Output
+  lent : Printed × List ℕ → Output
   halves : PairRead → Output
   pairing : Pairing → Output
 
@@ -29,7 +32,8 @@ pub record Row : Type 0 where
 
 -- what the operations give for an input, and the row of what they give
 abbrev pub gives : Input → Output
-gives (pair first second address) = printed (pairLine address first second)
+gives (pair first second address) = shown (pairLine address first second)
+gives (pairInto first second address buffer) = lent (printed (pairLine address first second) buffer)
 gives (pairRead l address) = halves (pairAnswer address l)
 gives (run hs) = pairing (unpaired hs)
 
@@ -37,10 +41,13 @@ abbrev pub givenRow : (Input → Output) → Row → Row
 givenRow f r = record { input = r .input; output = f (r .input) }
 
 abbrev prints : ℕ → ℕ → ℕ → String → Row
-prints first second address s = record { input = pair first second address; output = printed (line (text s)) }
+prints first second address s = record { input = pair first second address; output = shown (line (text s)) }
 
 abbrev refuses : ℕ → ℕ → ℕ → ℕ → Row
-refuses first second address n = record { input = pair first second address; output = printed (refused n) }
+refuses first second address n = record { input = pair first second address; output = shown (refused n) }
+
+abbrev keeps : ℕ → ℕ → ℕ → List ℕ → ℕ → Row
+keeps first second address buffer n = record { input = pairInto first second address buffer; output = lent (refusal n buffer) }
 
 abbrev reads : String → ℕ → PairRead → Row
 reads s address r = record { input = pairRead (text s) address; output = halves r }
@@ -59,6 +66,11 @@ table =
     ∷ refuses 0xF000 0xF000 0 5
     ∷ refuses 0xF800 0xF800 0 5
     ∷ refuses 0xE000 0xF800 0 5
+    -- "it comes before 3": no buffer, and one of a byte
+    ∷ keeps 0xF800 0xF000 0 [] 5
+    ∷ keeps 0xF800 0xF000 0 (0xA5 ∷ []) 5
+    ∷ keeps 0xF000 0xF800 0 [] 3
+    ∷ keeps 0xF000 0xF800 0 (0xA5 ∷ []) 3
     ∷ reads "bl\t0x00000004" 0 (Halves 0xF000 0xF800)
     ∷ reads "bl\t0x00000100" 0x100 (Halves 0xF7FF 0xFFFE)
     ∷ reads "bl\t0xffc00004" 0 (Halves 0xF400 0xF800)

@@ -107,7 +107,10 @@ fn pairs() -> Vec<(Pair, u32)> {
     (0..WORDS as u64)
         .map(silk::random)
         .map(|number| {
-            let halves = (0xf000 + number as u16 % 2048, 0xf800 + (number >> 16) as u16 % 2048);
+            let halves = (
+                0xf000 + number as u16 % 2048,
+                0xf800 + (number >> 16) as u16 % 2048,
+            );
             (halves, (number >> 32) as u32)
         })
         .collect()
@@ -158,7 +161,10 @@ fn pair_operations(list: &[(Pair, u32)]) {
         |pair, address| _ = black_box(silk::print_pair(pair, address, &mut buffer)),
         |pair, address| {
             display(ThumbInstruction::decode(pair.0, address), &mut line);
-            display(ThumbInstruction::decode(pair.1, address.wrapping_add(2)), &mut line);
+            display(
+                ThumbInstruction::decode(pair.1, address.wrapping_add(2)),
+                &mut line,
+            );
         },
     );
 }
@@ -172,7 +178,10 @@ fn run_of_pairs(list: &[(Pair, u32)]) {
         least.time(|| _ = black_box(silk::unpaired(black_box(&run))), || ());
     }
     let each = 1e9 * least.0 / run.len() as f64;
-    println!("\nA check of a run of {} halfwords: {each:.2} ns for each.", run.len());
+    println!(
+        "\nA check of a run of {} halfwords: {each:.2} ns for each.",
+        run.len()
+    );
 }
 
 /// Lines as they are printed, and damaged.
@@ -262,7 +271,13 @@ fn main() -> io::Result<()> {
 
     println!("\n| set, order | form | line | read, ns | print, ns | read / print |");
     println!("|---|---|---|---|---|---|");
-    reads("ARM, random", &both, &arm[..ROWS], silk::print_arm, silk::read_arm);
+    reads(
+        "ARM, random",
+        &both,
+        &arm[..ROWS],
+        silk::print_arm,
+        silk::read_arm,
+    );
     reads(
         "Thumb, random",
         &both,

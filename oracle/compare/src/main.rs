@@ -1,9 +1,9 @@
 //! Compares the library's bench lines, refusals and bench kinds with the
 //! published Rust. `compare [--words N]` takes all Thumb halfwords at many
 //! addresses, the corners of the ARM mask table, and N random ARM words (20
-//! million if not given); `compare --long ADDRESS` takes all ARM words at one
-//! address, in hexadecimal. Ends with a summary line, and fails if there is a
-//! difference.
+//! million if not given), and with these the lines of all call pairs;
+//! `compare --long ADDRESS` takes all ARM words at one address, in hexadecimal.
+//! Ends with a summary line, and fails if there is a difference.
 
 use std::env;
 use std::ops::AddAssign;
@@ -14,6 +14,7 @@ use std::thread;
 use arm7tdmi::arm::ArmFormat;
 use arm7tdmi::thumb::ThumbFormat;
 use rows::{Panic, Row, Word};
+use silk::Pair;
 
 const ADDRESSES: [u32; 6] = [0, 2, 0x100, 0x7fff_fffc, 0xffff_fffc, 0xffff_fffe];
 
@@ -210,6 +211,57 @@ fn part(name: &str, count: u64, row: impl Fn(u64) -> Row + Sync) -> Tally {
     tally
 }
 
+/// The number that the Rust's line of a lone half of a call shows.
+fn half_number(half: u16) -> u32 {
+    let mut line = String::new();
+    let (address, word) = (0, Word::Thumb(half));
+    assert_eq!(rows::display(Row { address, word }, &mut line), Ok(()));
+    let digits = line.strip_prefix("bl\t#0x").expect("a half of a call");
+    u32::from_str_radix(digits, 16).expect("hexadecimal digits")
+}
+
+/// How a pair's line differs from that with the target, if it does.
+fn pair_difference(pair: Pair, address: u32, target: u32) -> Option<String> {
+    let mut buffer = [GUARD; 16];
+    let answer = silk::print_pair(pair, address, &mut buffer);
+    let line = format!("bl\t0x{target:08x}");
+    let same = answer == (0, line.len())
+        && buffer.starts_with(line.as_bytes())
+        && buffer[line.len()..].iter().all(|&byte| byte == GUARD);
+    let written = buffer.escape_ascii();
+    (!same)
+        .then(|| format!("{pair:x?} at {address:x}: {answer:?}, bytes \"{written}\", not {line:?}"))
+}
+
+/// Compares the lines of all call pairs. The Rust has none, but it shows the
+/// numbers of the halves: with the address behind the pair they make its target.
+fn pairs(addresses: &[u32]) -> Tally {
+    let (mut tally, mut pairs) = (Tally::default(), 0);
+    let [firsts, seconds] = [0xf000, 0xf800]
+        .map(|top| (top..=top + 0x7ff).map(|half| (half, half_number(half))))
+        .map(Vec::from_iter);
+    for &address in addresses {
+        for &(first, high) in &firsts {
+            for &(second, low) in &seconds {
+                let behind = address.wrapping_add(4);
+                let target = behind.wrapping_add(high).wrapping_add(low);
+                pairs += 1;
+                if let Some(difference) = pair_difference((first, second), address, target) {
+                    tally.differences += 1;
+                    tally.shown.push(difference);
+                    tally.shown.truncate(SHOWN);
+                }
+            }
+        }
+    }
+    println!(
+        "all call pairs at {} addresses: {pairs} pairs, {} differences",
+        addresses.len(),
+        tally.differences
+    );
+    tally
+}
+
 /// An ARM word and an address, both random.
 fn random_row(place: u64) -> Row {
     let number = silk::random(place);
@@ -236,6 +288,7 @@ fn usual(words: u64) -> Tally {
         word: Word::Arm(corners[(place % count) as usize]),
     });
     tally += part("random ARM words at random addresses", words, random_row);
+    tally += pairs(&addresses[..8]);
     tally
 }
 

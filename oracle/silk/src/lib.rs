@@ -112,8 +112,7 @@ pub fn read_pair(address: u32, line: &[u8]) -> (u32, Pair) {
     let mut pair = (u16::MAX, u16::MAX);
     let (start, length) = (line.as_ptr(), line.len());
     // SAFETY: the line and the halves are lent for the call alone.
-    let number =
-        unsafe { c::silk_read_pair(address, start, length, &mut pair.0, &mut pair.1) };
+    let number = unsafe { c::silk_read_pair(address, start, length, &mut pair.0, &mut pair.1) };
     (number, pair)
 }
 
