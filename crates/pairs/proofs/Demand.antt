@@ -14,6 +14,7 @@ use Rattle.reading.proofs.Demand.{none-prints, read-most, read-prints}
 use Rattle.pairs.specs.Demand.{PairDemand, Prints, RunDemand}
 use Rattle.pairs.specs.Read.{joined, joinedLine, pairAnswer, readFirst, readNumber, readPair, readSecond}
 use Rattle.pairs.specs.Run.{firstUnpaired, lacksAt, pairingIndex, pairingNumber, unpaired}
+use Rattle.pairs.proofs.Printing.{is-printed}
 use Rattle.pairs.proofs.Reading.{parts, printed-halves}
 
 four-not-zero : _≡_ {A = ℕ} 4 0 → ⊥
@@ -26,27 +27,29 @@ module _ (p : ℕ) (l : List ℕ) where
   -- no two pairs print one line at one address
   pub one-pair : {a b c d : ℕ} → Prints p l a b → Prints p l c d → (a ≡ c) × (b ≡ d)
   one-pair {a} {b} {c} {d} e f =
-      let s = printed-halves p l a b (e .first-half) (e .second-half) (e .prints) in
-      let t = printed-halves p l c d (f .first-half) (f .second-half) (f .prints) in
+      let s = printed-halves p l a b (e .first-halfword) (e .second-halfword) (e .prints) in
+      let t = printed-halves p l c d (f .first-halfword) (f .second-halfword) (f .prints) in
       (sym (s .0) ∙ t .0, sym (s .1) ∙ t .1)
 
   -- two halfwords that print the line, as one number
   joined-prints : {a b : ℕ} → Prints p l a b → joinedLine p (joined a b) ≡ line l
-  joined-prints {a} {b} e = let q = parts a b (e .second-half) in rw (q .0, q .1) (e .prints)
+  joined-prints {a} {b} e = let q = parts a b (e .second-halfword) in rw (q .0, q .1) (e .prints)
 
   abbrev read : ℕ
   read = readPair p l
 
   read-is : read < 2 ^ 32 → Prints p l (read / 2 ^ 16) (read % 2 ^ 16)
   unfolding readPair
-  read-is h = record { first-half = omega arith; second-half = omega arith; prints = read-prints (joinedLine p) (2 ^ 32) l read h refl .0 }
+  read-is h =
+      let e = read-prints (joinedLine p) (2 ^ 32) l read h refl .0 in
+      record { first-halfword = omega arith; second-halfword = omega arith; pair = is-printed p (read / 2 ^ 16) (read % 2 ^ 16) l e .0; prints = e }
 
   read-none : 2 ^ 32 ≤ read → (a b : ℕ) → Prints p l a b → ⊥
   unfolding readPair
   read-none h a b e =
       let m = read-most (joinedLine p) (2 ^ 32) l in
-      let f = e .first-half in
-      let s = e .second-half in
+      let f = e .first-halfword in
+      let s = e .second-halfword in
       none-prints (joinedLine p) (2 ^ 32) l (omega (arith, m, h)) (joined a b) (omega (arith, f, s)) (joined-prints e)
 
   some : read < 2 ^ 32 → PairDemand p l 0 (read / 2 ^ 16) (read % 2 ^ 16)

@@ -8,26 +8,26 @@ use native.Mathlib.Omega.{arith}
 use Rattle.arm7tdmi.specs.Signed.{extended}
 use Rattle.common.proofs.Tests.{and-left, and-right, by-test}
 use Rattle.common.specs.Bits.{bitRange}
-use Rattle.thumb.specs.Pair.{isFirst, isPair, isSecond, pairTarget}
+use Rattle.thumb.specs.Pair.{isFirstHalf, isPair, isSecondHalf, pairTarget}
 use Rattle.pairs.specs.Read.{distance, firstFor, secondFor}
 
 -- no halfword is a half of either kind
-pub not-both : (h : ℕ) → isFirst h ≡ true → isSecond h ≡ false
-unfolding isFirst isSecond
+pub not-both : (h : ℕ) → isFirstHalf h ≡ true → isSecondHalf h ≡ false
+unfolding isFirstHalf isSecondHalf
 not-both h e = let f = eqb-true (bitRange h 11 16) 30 e in rw f
 
 -- a half is its top bits and its field
-first-field : (h : ℕ) → h < 2 ^ 16 → isFirst h ≡ true → 0xf000 + bitRange h 0 11 ≡ h
-unfolding isFirst
+first-field : (h : ℕ) → h < 2 ^ 16 → isFirstHalf h ≡ true → 0xf000 + bitRange h 0 11 ≡ h
+unfolding isFirstHalf
 first-field h l e = let f = eqb-true (bitRange h 11 16) 30 e in omega (arith, f)
 
-second-field : (h : ℕ) → h < 2 ^ 16 → isSecond h ≡ true → 0xf800 + bitRange h 0 11 ≡ h
-unfolding isSecond
+second-field : (h : ℕ) → h < 2 ^ 16 → isSecondHalf h ≡ true → 0xf800 + bitRange h 0 11 ≡ h
+unfolding isSecondHalf
 second-field h l e = let f = eqb-true (bitRange h 11 16) 31 e in omega (arith, f)
 
 -- the halves for a distance are a pair
 pub pair-for : (d : ℕ) → isPair (firstFor d) (secondFor d) ≡ true
-unfolding isPair isFirst isSecond
+unfolding isPair isFirstHalf isSecondHalf
 pair-for d = rw (eq-eqb (bitRange (firstFor d) 11 16) 30 (omega arith), eq-eqb (bitRange (secondFor d) 11 16) 31 (omega arith))
 
 -- the distance is the sum of the fields, which gives each of them back
@@ -58,6 +58,6 @@ halves-back p first second f s e =
     let b = bitRange second 0 11 in
     let x = fields-back a b (omega arith) (omega arith) in
     let d = gone p (extended 11 4096 a) b (x .0) in
-    let i = first-field first f (and-left (isFirst first) (isSecond second) e) in
-    let j = second-field second s (and-right (isFirst first) (isSecond second) e) in
+    let i = first-field first f (and-left (isFirstHalf first) (isSecondHalf second) e) in
+    let j = second-field second s (and-right (isFirstHalf first) (isSecondHalf second) e) in
     (rw (d, x .1) i, rw (d, x .2) j)

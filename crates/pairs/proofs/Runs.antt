@@ -9,7 +9,7 @@ use native.Mathlib.Numerals.{add-one}
 use native.Mathlib.Omega.{arith}
 use Rattle.common.proofs.Lowest.{lowest-at-most, lowest-step}
 use Rattle.common.specs.Lowest.{lowest}
-use Rattle.thumb.specs.Pair.{isFirst, isSecond}
+use Rattle.thumb.specs.Pair.{isFirstHalf, isSecondHalf}
 use Rattle.pairs.specs.Run.{firstUnpaired, halfAt, halfBefore, lacks, lacksAt, unpaired}
 use Rattle.pairs.specs.declared.run.Pairing.the-variants.{AllPaired, Lacks}
 use Rattle.pairs.proofs.Halves.{not-both}
@@ -20,15 +20,15 @@ or-none false = refl
 
 -- ---- a half, by what the code tests
 module _ (before h behind : ℕ) where
-  pub lacks-first : isFirst h ≡ true → lacks before h behind ≡ not (isSecond behind)
+  pub lacks-first : isFirstHalf h ≡ true → lacks before h behind ≡ not (isSecondHalf behind)
   unfolding lacks
-  lacks-first e = rw (e, not-both h e) (or-none (not (isSecond behind)))
+  lacks-first e = rw (e, not-both h e) (or-none (not (isSecondHalf behind)))
 
-  pub lacks-second : isFirst h ≡ false → isSecond h ≡ true → lacks before h behind ≡ not (isFirst before)
+  pub lacks-second : isFirstHalf h ≡ false → isSecondHalf h ≡ true → lacks before h behind ≡ not (isFirstHalf before)
   unfolding lacks
   lacks-second e f = rw (e, f)
 
-  pub lacks-none : isFirst h ≡ false → isSecond h ≡ false → lacks before h behind ≡ false
+  pub lacks-none : isFirstHalf h ≡ false → isSecondHalf h ≡ false → lacks before h behind ≡ false
   unfolding lacks
   lacks-none e f = rw (e, f)
 

@@ -5,13 +5,15 @@ use mathlib.Core.Path.{_≡_}
 use Prim.Native.Nat.{ℕ, _<_, _^_}
 use lib.ListN.{length}
 use Rattle.lines.specs.Answer.{line}
+use Rattle.thumb.specs.Pair.{isPair}
 use Rattle.pairs.specs.Print.{pairLine}
 use Rattle.pairs.specs.Run.{lacksAt}
 
--- two halfwords print the line l at p
+-- two halfwords are a pair, and print the line l at p
 pub record Prints (p : ℕ) (l : List ℕ) (first second : ℕ) : Type 0 where
-  pub first-half : first < 2 ^ 16
-  pub second-half : second < 2 ^ 16
+  pub first-halfword : first < 2 ^ 16
+  pub second-halfword : second < 2 ^ 16
+  pub pair : isPair first second ≡ true
   pub prints : pairLine p first second ≡ line l
 
 -- "A line is readable as a pair exactly if some pair prints it at p, and otherwise gets 4 with both halves 0": of a line l, and what is answered for it

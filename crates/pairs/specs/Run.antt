@@ -5,13 +5,13 @@ use Prim.Native.Nat.{ℕ, _+_}
 use lib.Dec.{ltb}
 use lib.ListN.{getD, length}
 use Rattle.common.specs.Lowest.{lowest}
-use Rattle.thumb.specs.Pair.{isFirst, isSecond}
+use Rattle.thumb.specs.Pair.{isFirstHalf, isSecondHalf}
 use Rattle.pairs.specs.declared.run.Pairing.{Pairing}
 use Rattle.pairs.specs.declared.run.Pairing.the-variants.{Lacks, AllPaired}
 
 -- "lacks its partner (directly behind a first half, directly before a second)": a halfword, with the one before it and the one behind it
 unfoldable pub lacks : ℕ → ℕ → ℕ → Bool
-lacks before h behind = (isFirst h && not (isSecond behind)) || (isSecond h && not (isFirst before))
+lacks before h behind = (isFirstHalf h && not (isSecondHalf behind)) || (isSecondHalf h && not (isFirstHalf before))
 
 -- the halfword at i of a run, and the one before it: 0, which is no half, where the run has none
 abbrev pub halfAt : List ℕ → ℕ → ℕ

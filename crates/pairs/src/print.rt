@@ -10,7 +10,7 @@ use text::put::put_text;
 use thumb::is_pair;
 use thumb::pair_target;
 
-// The line at the start of a buffer.
+// The text of two halves at the start of a buffer.
 pub fn put_pair(buf: &mut [u8], pc: u32, first: u16, second: u16) -> usize
     ensures { λ r. ⌜ Wrote (now (buf .entry)) 0 (pairText pc first second) (now (buf .exit)) r ⌝ }
 {

@@ -6,14 +6,14 @@ use Rattle.common.specs.Bits.{bitRange}
 use Rattle.arm7tdmi.specs.Signed.{extended}
 
 -- a first half, a second half, and the two as a pair
-unfoldable pub isFirst : ℕ → Bool
-isFirst h = eqb (bitRange h 11 16) 0b11110
+unfoldable pub isFirstHalf : ℕ → Bool
+isFirstHalf h = eqb (bitRange h 11 16) 0b11110
 
-unfoldable pub isSecond : ℕ → Bool
-isSecond h = eqb (bitRange h 11 16) 0b11111
+unfoldable pub isSecondHalf : ℕ → Bool
+isSecondHalf h = eqb (bitRange h 11 16) 0b11111
 
 unfoldable pub isPair : ℕ → ℕ → Bool
-isPair first second = isFirst first && isSecond second
+isPair first second = isFirstHalf first && isSecondHalf second
 
 -- where a pair at p goes: "p + 4 + (first 11 bits, sign-extended) × 4096 + (second 11 bits) × 2, modulo 2^32"
 unfoldable pub pairTarget : ℕ → ℕ → ℕ → ℕ

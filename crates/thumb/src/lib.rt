@@ -8,7 +8,7 @@ ghost use Rattle.arm7tdmi.specs.Alu.{barrelShiftOpCode};
 ghost use Rattle.arm7tdmi.specs.Cond.{armCond};
 ghost use Rattle.thumb.specs.Kinds.{thumbMet, thumbNone, thumbRows, thumbFirst, thumbFormat, thumbNumber};
 ghost use Rattle.thumb.specs.Fields.{opFormat3, opFormat5, thumbAluOp, thumbAluNumber, bcondOffset, branchOffset11, callOffset, bcondTarget, branchTarget, pcLoadAddress, callHalf, word8, sword7};
-ghost use Rattle.thumb.specs.Pair.{isFirst, isSecond, isPair, pairTarget};
+ghost use Rattle.thumb.specs.Pair.{isFirstHalf, isSecondHalf, isPair, pairTarget};
 ghost use Rattle.thumb.specs.Record.{byteLength, decoded, halfwordsOf, leading};
 ghost use Rattle.thumb.specs.declared.Halfwords.the-variants.{One};
 use arm7tdmi::Form;
@@ -249,14 +249,14 @@ pub fn thumb_format(form: Form, raw: u16) -> ThumbFormat
 
 // Whether a halfword is the first half of a call, by its top bits.
 pub fn is_first_half(h: u16) -> bool
-    ensures { λ r. ⌜ r ≡ isFirst h ⌝ }
+    ensures { λ r. ⌜ r ≡ isFirstHalf h ⌝ }
 {
     bit_range(h as u32, 11, 16) == 0b11110
 }
 
 // Whether a halfword is the second half of a call.
 pub fn is_second_half(h: u16) -> bool
-    ensures { λ r. ⌜ r ≡ isSecond h ⌝ }
+    ensures { λ r. ⌜ r ≡ isSecondHalf h ⌝ }
 {
     bit_range(h as u32, 11, 16) == 0b11111
 }

@@ -9,7 +9,7 @@ use Rattle.arm7tdmi.specs.declared.Form.{Form}
 use Rattle.common.proofs.Tests.{and-left, and-right}
 use Rattle.common.specs.Bits.{bitRange}
 use Rattle.thumb.specs.Kinds.{thumbFormat}
-use Rattle.thumb.specs.Pair.{isFirst, isPair, isSecond}
+use Rattle.thumb.specs.Pair.{isFirstHalf, isPair, isSecondHalf}
 use Rattle.thumb.specs.Record.{decoded, halfwordsOf}
 use Rattle.thumb.specs.declared.Halfwords.the-variants.{One, Two}
 use Rattle.thumb.specs.declared.ThumbFormat.the-variants.{BranchLongWithLink}
@@ -23,18 +23,18 @@ module _ (form : Form) (h : ℕ) (l : h < 2 ^ 16) where
       let w : word (parts form BranchLongWithLink) xs ≡ h = omega (arith, e) in
       rw w at (thumb-kind form BranchLongWithLink tt xs (omega arith))
 
-  first-kind : isFirst h ≡ true → thumbFormat form h ≡ BranchLongWithLink
-  unfolding isFirst
+  first-kind : isFirstHalf h ≡ true → thumbFormat form h ≡ BranchLongWithLink
+  unfolding isFirstHalf
   first-kind e = let f = eqb-true (bitRange h 11 16) 30 e in half-kind 0 (omega arith) (omega (arith, f))
 
-  second-kind : isSecond h ≡ true → thumbFormat form h ≡ BranchLongWithLink
-  unfolding isSecond
+  second-kind : isSecondHalf h ≡ true → thumbFormat form h ≡ BranchLongWithLink
+  unfolding isSecondHalf
   second-kind e = let f = eqb-true (bitRange h 11 16) 31 e in half-kind 1 (omega arith) (omega (arith, f))
 
 module _ (form : Form) (first second address : ℕ) (hf : first < 2 ^ 16) (hs : second < 2 ^ 16) where
   pub pair-kinds : isPair first second ≡ true → (thumbFormat form first ≡ BranchLongWithLink) × (thumbFormat form second ≡ BranchLongWithLink)
   unfolding isPair
-  pair-kinds e = (first-kind form first hf (and-left (isFirst first) (isSecond second) e), second-kind form second hs (and-right (isFirst first) (isSecond second) e))
+  pair-kinds e = (first-kind form first hf (and-left (isFirstHalf first) (isSecondHalf second) e), second-kind form second hs (and-right (isFirstHalf first) (isSecondHalf second) e))
 
   -- the record of a pair
   pub pair-record : isPair first second ≡ true

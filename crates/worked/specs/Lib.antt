@@ -1,2 +1,2 @@
 pub mod Worked
-pub mod Calls
+pub mod Pairs

@@ -3,12 +3,12 @@ use Prim.Native.Nat.{ℕ}
 use borrow.Author.Needs.{needs}
 use lib.Dec.{eqb}
 use mathlib.Core.Path.{ap}
-use Rattle.thumb.specs.Pair.{isFirst}
+use Rattle.thumb.specs.Pair.{isFirstHalf}
 use Rattle.thumb.proofs.is_first_half.Statement.{statement}
 use Rattle.thumb.proofs.is_first_half.Tie as tie
 
 returns : tie.Need-returns
-unfolding isFirst
+unfolding isFirstHalf
 returns c = ap (λ (n : ℕ). eqb n 30) (c .bit-range .ensures)
 
 pub is-first-half-spec : {M : Type 1} → statement M

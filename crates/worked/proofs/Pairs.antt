@@ -14,8 +14,8 @@ use Rattle.pairs.specs.Print.{pairLine, pairText}
 use Rattle.pairs.specs.Read.{answerOf, firstFor, pairAnswer, secondFor}
 use Rattle.pairs.specs.Run.{firstUnpaired, lacks, unpaired}
 use Rattle.text.specs.Digits.{digitValue, digits, hex, prefixed, valueFrom}
-use Rattle.thumb.specs.Pair.{isFirst, isPair, isSecond, pairTarget}
-use Rattle.worked.specs.Calls.{Input, Output, Row, gives, givenRow, halves, pair, pairInto, pairRead, run, table}
+use Rattle.thumb.specs.Pair.{isFirstHalf, isPair, isSecondHalf, pairTarget}
+use Rattle.worked.specs.Pairs.{Input, Output, Row, gives, givenRow, halves, pair, pairInto, pairRead, run, table}
 
 -- what they give, with the reader's law in place of the search
 abbrev byLaw : Input → Output
@@ -36,8 +36,8 @@ rows-law [] = refl
 rows-law (r ∷ l) = rw (law (r .input), rows-law l)
 
 computed : map (givenRow byLaw) table ≡ table
-unfolding printed pairLine pairText isPair isFirst isSecond pairTarget extended address prefixed hex digits valueFrom digitValue first same unpaired firstUnpaired lowest lacks
+unfolding printed pairLine pairText isPair isFirstHalf isSecondHalf pairTarget extended address prefixed hex digits valueFrom digitValue first same unpaired firstUnpaired lowest lacks
 computed = refl
 
-pub calls : map (givenRow gives) table ≡ table
-calls = rows-law table ∙ computed
+pub worked-pairs : map (givenRow gives) table ≡ table
+worked-pairs = rows-law table ∙ computed
