@@ -11,7 +11,6 @@ use native.Mathlib.Omega.{arith}
 use Rattle.arm7tdmi.specs.declared.Form.the-variants.{Sheet}
 use Rattle.common.proofs.Tests.{by-test}
 use Rattle.lines.proofs.Address.{address-back, sheet-within}
-use Rattle.lines.specs.Address.{address}
 use Rattle.lines.specs.Answer.{Answer, line, printed, refused}
 use Rattle.reading.proofs.Demand.{line-is}
 use Rattle.text.proofs.Within.{Within, _&_, exactly}

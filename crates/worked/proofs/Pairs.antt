@@ -1,8 +1,7 @@
 -- The lines, reads and runs of call pairs are what the definitions give. Assumes nothing.
 use Prim.Native.Nat.{_^_}
-use lib.ListN.{drop}
 use mathlib.Core.Bool.{cond}
-use mathlib.Core.List.{List, [], _∷_, map}
+use mathlib.Core.List.{map}
 use mathlib.Core.Path.{_≡_, _∙_, refl}
 use Rattle.arm7tdmi.specs.Signed.{extended}
 use Rattle.common.specs.Lists.{first, same}
@@ -15,7 +14,8 @@ use Rattle.pairs.specs.Read.{answerOf, firstFor, pairAnswer, secondFor}
 use Rattle.pairs.specs.Run.{firstUnpaired, lacks, unpaired}
 use Rattle.text.specs.Digits.{digitValue, digits, hex, prefixed, valueFrom}
 use Rattle.thumb.specs.Pair.{isFirstHalf, isPair, isSecondHalf, pairTarget}
-use Rattle.worked.specs.Pairs.{Input, Output, Row, gives, givenRow, halves, pair, pairInto, pairRead, run, table}
+use Rattle.worked.proofs.Rows.{rows-alike}
+use Rattle.worked.specs.Pairs.{Input, Output, gives, givenRow, halves, pair, pairInto, pairRead, run, table}
 
 -- what they give, with the reader's law in place of the search
 abbrev byLaw : Input → Output
@@ -31,13 +31,9 @@ law (pairInto a b p l) = refl
 law (pairRead l p) = rw (read-candidate p l)
 law (run hs) = refl
 
-rows-law : (l : List Row) → map (givenRow gives) l ≡ map (givenRow byLaw) l
-rows-law [] = refl
-rows-law (r ∷ l) = rw (law (r .input), rows-law l)
-
 computed : map (givenRow byLaw) table ≡ table
 unfolding printed pairLine pairText isPair isFirstHalf isSecondHalf pairTarget extended address prefixed hex digits valueFrom digitValue first same unpaired firstUnpaired lowest lacks
 computed = refl
 
 pub worked-pairs : map (givenRow gives) table ≡ table
-worked-pairs = rows-law table ∙ computed
+worked-pairs = rows-alike (givenRow gives) (givenRow byLaw) (λ r. rw (law (r .input))) table ∙ computed

@@ -1,6 +1,6 @@
 -- The worked lines are what the definitions give. Assumes nothing.
 use mathlib.Core.Bool.{cond}
-use mathlib.Core.List.{List, [], _∷_, map}
+use mathlib.Core.List.{map}
 use mathlib.Core.Path.{_≡_, _∙_, refl}
 use Prim.Native.Nat.{_^_}
 use native.Mathlib.Omega.{arith}
@@ -36,7 +36,8 @@ use Rattle.thumb_mnemonic.specs.Rows.{rows}
 use Rattle.reading.proofs.Several.{best}
 use Rattle.reading.specs.Read.{isLine}
 use Rattle.text.specs.Word as Words
-use Rattle.worked.specs.Worked.{Input, Output, Row, arm, armRead, gives, givenRow, table, thumb, thumbRead, word}
+use Rattle.worked.proofs.Rows.{rows-alike}
+use Rattle.worked.specs.Worked.{Input, Output, arm, armRead, gives, givenRow, table, thumb, thumbRead, word}
 
 -- what they give, with the reader's law in place of the lowest word
 abbrev byLaw : Form → Input → Output
@@ -51,13 +52,9 @@ law form (thumb w address) = refl
 law form (armRead l) = rw (read-arm form 0 (omega arith) l)
 law form (thumbRead l address) = rw (read-thumb form address l)
 
-rows-law : (l : List Row) → map (givenRow gives) l ≡ map (givenRow byLaw) l
-rows-law [] = refl
-rows-law (r ∷ l) = rw (law Bench (r .benchInput), law Sheet (r .sheetInput), rows-law l)
-
 computed : map (givenRow byLaw) table ≡ table
 unfolding aluOpCode amountOf barrelShiftOpCode sheetAmount armCond Arm.halfwordType Arm.branchOffset Arm.branchTarget Arm.bsOp Arm.shiftRegBy Arm.operand2 Arm.addedOf Arm.signedOffset Arm.ldrStrOffset armRows thumbRows regNames regString condNames condText regAt condAt either ifSet setBits registers listed extended Thumb.opFormat5 Thumb.sword7 ALine.opText AOperand.shiftText AOperand.placesText AOperand.amountText AOperand.byAmount AOperand.shiftBy AOperand.shiftedRegister ALine.bxCond ALine.fmtBx ALine.fmtBranch AOperand.fmtOperand2 AOperand.rdText ALine.fmtMove ALine.fmtThree ALine.fmtOpcode ALine.fmtDataProcessing AOperand.benchOffset AOperand.magnitude AOperand.sheetOffset AOperand.immediateOffset AOperand.signText AOperand.signedRegister AOperand.offsetText AOperand.indexed AOperand.valueComment AOperand.comment AOperand.fmtRnOffset ALine.userMark ALine.fmtLdrStr ALine.lineOf APrint.answerOf APrint.armLine first digits hex prefixed dec TLine.shiftText TLine.shiftPlaces TLine.fmtThumbMoveShiftedReg TLine.op5Text TOperand.highDst TOperand.dstReg TOperand.srcReg TOperand.dstAndSrc TOperand.highOperands TLine.fmtThumbHighRegOpOrBx TOperand.spSize TOperand.spBits TOperand.sheetSpOffset TOperand.spOffset TLine.fmtThumbAddSp TOperand.baseText TLine.fmtThumbLdmStm TLine.lineOf TPrint.thumbLine candidate dpCand dpFrom undefinedCand condOf headOf stemNames stemOf stems same regNamed condNamed digitValue valueFrom Words.isWord Words.word Words.behind Words.after Words.has ALine.fmtTest AOperand.immediate AOperand.decodedText immediateOf operandOf rotationOf shiftNamed shiftNames shiftOf shiftedOf Arm.pcRelative address Thumb.bcondTarget Thumb.branchTarget TLine.fmtThumbBranchWithCond TLine.fmtThumbBranch TCandidate.candidates TCandidate.candidate TCandidate.operands TCandidate.offsetIn TCandidate.suits rows best
 computed = refl
 
 pub worked : map (givenRow gives) table ≡ table
-worked = rows-law table ∙ computed
+worked = rows-alike (givenRow gives) (givenRow byLaw) (λ r. rw (law Bench (r .benchInput), law Sheet (r .sheetInput))) table ∙ computed

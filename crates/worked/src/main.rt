@@ -293,7 +293,7 @@ fn read_thumb_lines() -> u32
 }
 
 // A Thumb call on one line. The halves in the wrong order are refused with 5.
-fn pairs() -> u32
+fn print_pairs() -> u32
     ensures { λ r. ⌜ r ≤ 6 ⌝ }
 {
     let n = pair(0, 0xf000, 0xf800, 0, b"bl\t0x00000004");
@@ -351,7 +351,7 @@ fn main() {
         + read_no_sheet_shifts()
         + read_no_bench_shifts()
         + read_thumb_lines()
-        + pairs()
+        + print_pairs()
         + read_pairs()
         + read_no_pairs()
         + runs();
