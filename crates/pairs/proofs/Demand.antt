@@ -17,12 +17,6 @@ use Rattle.pairs.specs.Run.{firstUnpaired, lacksAt, pairingIndex, pairin
 use Rattle.pairs.proofs.Printing.{is-printed}
 use Rattle.pairs.proofs.Reading.{parts, printed-halves}
 
-four-not-zero : _≡_ {A = ℕ} 4 0 → ⊥
-four-not-zero e = omega arith
-
-one-not-zero : _≡_ {A = ℕ} 1 0 → ⊥
-one-not-zero e = omega arith
-
 module _ (p : ℕ) (l : List ℕ) where
   -- no two pairs print one line at one address
   pub one-pair : {a b c d : ℕ} → Prints p l a b → Prints p l c d → (a ≡ c) × (b ≡ d)
@@ -56,13 +50,13 @@ module _ (p : ℕ) (l : List ℕ) where
   some h = record {
     success = λ e. read-is h;
     found = λ a b f. (refl, one-pair (read-is h) f .0, one-pair (read-is h) f .1);
-    none = λ e. absurd (four-not-zero (sym e));
+    none = λ e. absurd (omega arith);
     refused = λ f. absurd (f (read / 2 ^ 16) (read % 2 ^ 16) (read-is h));
   }
 
   nothing : 2 ^ 32 ≤ read → PairDemand p l 4 0 0
   nothing h = record {
-    success = λ e. absurd (four-not-zero e);
+    success = λ e. absurd (omega arith);
     found = λ a b f. absurd (read-none h a b f);
     none = λ e. read-none h;
     refused = λ f. (refl, refl, refl);
@@ -89,14 +83,14 @@ module _ (run : List ℕ) where
     lacking = λ e. (h, passes h);
     earliest = λ e. earlier;
     found = λ i g e. refl;
-    paired = λ e. absurd (one-not-zero e);
+    paired = λ e. absurd (omega arith);
     all-paired = λ f. absurd (true≢false (sym (passes h) ∙ f earliest h));
   }
 
   paired : length run ≤ earliest → RunDemand run 0 0
   paired h = record {
-    lacking = λ e. absurd (one-not-zero (sym e));
-    earliest = λ e. absurd (one-not-zero (sym e));
+    lacking = λ e. absurd (omega arith);
+    earliest = λ e. absurd (omega arith);
     found = λ i g e. absurd (true≢false (sym e ∙ earlier i (omega arith)));
     paired = λ e i g. earlier i (omega arith);
     all-paired = λ f. (refl, refl);

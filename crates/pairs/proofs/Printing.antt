@@ -4,14 +4,14 @@ use borrow.Author.Tests.{le-ltb, lt-ltb}
 use lib.ListN.{drop, length, replicate, take}
 use lib.Seq.{take-at}
 use mathlib.Core.Bool.{false, true, true≢false}
-use mathlib.Core.List.{List, []}
-use mathlib.Core.Path.{_≡_, ap, refl, sym}
+use mathlib.Core.List.{List}
+use mathlib.Core.Path.{_≡_, refl, sym}
 use native.Mathlib.Nat.{mod-lt}
 use native.Mathlib.Omega.{arith}
 use Rattle.arm7tdmi.specs.declared.Form.the-variants.{Sheet}
 use Rattle.common.proofs.Tests.{by-test}
 use Rattle.lines.proofs.Address.{address-back, sheet-within}
-use Rattle.lines.specs.Answer.{Answer, line, printed, refused}
+use Rattle.lines.specs.Answer.{line, printed, refused}
 use Rattle.reading.proofs.Demand.{line-is}
 use Rattle.text.proofs.Within.{Within, _&_, exactly}
 use Rattle.text.proofs.Wrote.{kept, lies}
@@ -36,15 +36,11 @@ module _ (p first second : ℕ) where
   target-back = address-back Sheet (pairTarget p first second) (mod-lt _ (omega arith))
 
   -- a line that is printed is that of a pair, and its text
-  abbrev textOf : Answer → List ℕ
-  textOf (refused n) = []
-  textOf (line t) = t
-
   pub is-printed : (l : List ℕ) → pairLine p first second ≡ line l → (isPair first second ≡ true) × (pairText p first second ≡ l)
   unfolding pairLine
   is-printed l h =
       by-test (isPair first second)
-      (λ e. (e, ap textOf (rw e at h)))
+      (λ e. let g : line (pairText p first second) ≡ line l = rw e at h in (e, cc))
       (λ e. absurd (true≢false (sym (line-is (refused 5) l (rw e at h)))))
 
   pub pair-prints : isPair first second ≡ true → pairLine p first second ≡ line (pairText p first second)
