@@ -9,7 +9,7 @@ use Rattle.arm7tdmi.specs.Signed.{extended}
 use Rattle.common.proofs.Tests.{and-left, and-right, by-test}
 use Rattle.common.specs.Bits.{bitRange}
 use Rattle.thumb.specs.Pair.{isFirstHalf, isPair, isSecondHalf, pairTarget}
-use Rattle.pairs.specs.Read.{distance, firstFor, secondFor}
+use Rattle.pairs.specs.Candidate.{distance, firstFor, secondFor}
 
 -- no halfword is a half of either kind
 pub not-both : (h : ℕ) → isFirstHalf h ≡ true → isSecondHalf h ≡ false

@@ -12,7 +12,8 @@ use Rattle.lines.specs.Answer.{line}
 use Rattle.reading.proofs.Demand.{candidate-reads, none-read}
 use Rattle.text.specs.Digits.{value}
 use Rattle.pairs.specs.Print.{pairLine, pairText}
-use Rattle.pairs.specs.Read.{distance, firstFor, joined, joinedLine, pairAnswer, readPair, secondFor}
+use Rattle.pairs.specs.Candidate.{distance, firstFor, secondFor}
+use Rattle.pairs.specs.Read.{joined, joinedLine, pairAnswer, readPair}
 use Rattle.pairs.specs.declared.read.PairRead.the-variants.{Halves, Nothing}
 use Rattle.pairs.proofs.Halves.{halves-back, pair-for}
 use Rattle.pairs.proofs.Printing.{is-printed, pair-length, pair-prints, target-back}

@@ -2,3 +2,4 @@ pub mod Print
 pub mod Read
 pub mod Run
 pub mod Demand
+pub mod Candidate

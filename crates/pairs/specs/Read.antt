@@ -1,9 +1,8 @@
 -- Read of a call pair. Assumes nothing.
 use mathlib.Core.Bool.{cond}
 use mathlib.Core.List.{List}
-use Prim.Native.Nat.{ℕ, _+_, _*_, _-_, _/_, _%_, _^_}
+use Prim.Native.Nat.{ℕ, _+_, _*_, _/_, _%_, _^_}
 use lib.Dec.{ltb}
-use Rattle.arm7tdmi.specs.Signed.{moved}
 use Rattle.lines.specs.Answer.{Answer}
 use Rattle.reading.specs.Read.{readBack}
 use Rattle.pairs.specs.Print.{pairLine}
@@ -41,15 +40,3 @@ readFirst Nothing = 0
 abbrev pub readSecond : PairRead → ℕ
 readSecond (Halves first second) = second
 readSecond Nothing = 0
-
--- ---- for the contracts of inner functions
--- how far a target is from the address behind a pair at p
-abbrev pub distance : ℕ → ℕ → ℕ
-distance p target = moved target (2 ^ 32 - moved p 4)
-
--- the halves of a call over a distance, if there is one
-abbrev pub firstFor : ℕ → ℕ
-firstFor d = 0xf000 + d / 4096 % 2048
-
-abbrev pub secondFor : ℕ → ℕ
-secondFor d = 0xf800 + d / 2 % 2048

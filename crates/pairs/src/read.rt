@@ -2,7 +2,8 @@
 ghost use mathlib.Core.Path.{_≡_};
 ghost use Rattle.common.specs.Lists.{same};
 ghost use Rattle.pairs.specs.Print.{pairText};
-ghost use Rattle.pairs.specs.Read.{distance, firstFor, secondFor, pairAnswer};
+ghost use Rattle.pairs.specs.Read.{pairAnswer};
+ghost use Rattle.pairs.specs.Candidate.{distance, firstFor, secondFor};
 use crate::print::put_pair;
 use text::read::equal;
 use text::read::read_hex;

@@ -10,7 +10,8 @@ use Rattle.lines.specs.Address.{address}
 use Rattle.lines.specs.Answer.{printed}
 use Rattle.pairs.proofs.Reading.{candidate, read-candidate, shown}
 use Rattle.pairs.specs.Print.{pairLine, pairText}
-use Rattle.pairs.specs.Read.{answerOf, firstFor, pairAnswer, secondFor}
+use Rattle.pairs.specs.Candidate.{firstFor, secondFor}
+use Rattle.pairs.specs.Read.{answerOf, pairAnswer}
 use Rattle.pairs.specs.Run.{firstUnpaired, lacks, unpaired}
 use Rattle.text.specs.Digits.{digitValue, digits, hex, prefixed, valueFrom}
 use Rattle.thumb.specs.Pair.{isFirstHalf, isPair, isSecondHalf, pairTarget}
