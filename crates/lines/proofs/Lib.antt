@@ -1,3 +1,4 @@
 pub mod Registers
+pub mod Positions
 pub mod Lengths
 pub mod Address

@@ -11,6 +11,7 @@ use native.Mathlib.Nat.{add-zero, div-one, lt-of-lt-of-le, mod-eq-of-lt, mod-lt}
 use native.Mathlib.Omega.{arith}
 use Rattle.arm7tdmi.specs.Names.{regString}
 use Rattle.lines.specs.Pieces.{joined, listed, registers, setBits}
+use Rattle.lines.specs.Position.{names, soFar}
 use Rattle.common.proofs.Tests.{at, by-test}
 use Rattle.common.specs.Bits.{bit, bitRange}
 use Rattle.text.specs.Text.{text}
@@ -66,10 +67,17 @@ some-below raw (suc i) e =
     rw (t, append-nil) (some-below raw i (λ q. e (zero-low raw i q z))))
 
 -- ---- a text joined to others
-joined-last : (ts : List (List ℕ)) (t : List ℕ) → some ts ≡ true → joined (ts ++ (t ∷ [])) ≡ joined ts ++ (text ", " ++ t)
-joined-last [] t e = absurd (true≢false (sym e))
-joined-last (u ∷ []) t e = refl
-joined-last (u ∷ v ∷ ts) t e = rw (joined-last (v ∷ ts) t refl) (sym (append-assoc u (text ", " ++ joined (v ∷ ts)) (text ", " ++ t)))
+-- a list is the names before a name, each with its separator, and the names from there on
+pub joined-so-far : (ts : List (List ℕ)) (t : List ℕ) (us : List (List ℕ)) → joined (ts ++ (t ∷ us)) ≡ soFar ts ++ joined (t ∷ us)
+joined-so-far [] t us = refl
+joined-so-far (s ∷ []) t us = sym (append-assoc s (text ", ") (joined (t ∷ us)))
+joined-so-far (s ∷ v ∷ ts) t us = rw (joined-so-far (v ∷ ts) t us) (sym (append-assoc s (text ", " ++ soFar (v ∷ ts)) (joined (t ∷ us))))
+
+-- the names before a name are a list themselves, with a separator behind it
+so-far-some : (ts : List (List ℕ)) → some ts ≡ true → soFar ts ≡ joined ts ++ text ", "
+so-far-some [] e = absurd (true≢false (sym e))
+so-far-some (t ∷ []) e = refl
+so-far-some (t ∷ u ∷ ts) e = rw (so-far-some (u ∷ ts) refl) (sym (append-assoc t (text ", " ++ joined (u ∷ ts)) (text ", ")))
 
 map-last : (f : ℕ → List ℕ) (xs : List ℕ) (y : ℕ) → map f (xs ++ (y ∷ [])) ≡ map f xs ++ (f y ∷ [])
 map-last f [] y = refl
@@ -83,14 +91,24 @@ some-map f (x ∷ xs) e = refl
 low-bits : (raw i : ℕ) → bitRange raw 0 i ≡ raw % 2 ^ i
 low-bits raw i = let e : i - 0 ≡ i = omega arith in rw (e, div-one)
 
--- one more text behind the names: alone, or behind a comma
-pub registers-then : (raw i : ℕ) (t : List ℕ) → joined (map regString (setBits raw i) ++ (t ∷ [])) ≡ registers raw i ++ cond (eqb (bitRange raw 0 i) 0) t (text ", " ++ t)
+-- what stands before one more name: the list of the registers below i, where there is none and where there are some
+pub so-far-first : (raw i : ℕ) → bitRange raw 0 i ≡ 0 → registers raw i ≡ soFar (names raw i)
 unfolding registers
+so-far-first raw i e = rw (none-below raw i (sym (low-bits raw i) ∙ e))
+
+pub so-far-next : (raw i : ℕ) → (bitRange raw 0 i ≡ 0 → ⊥) → registers raw i ++ text ", " ≡ soFar (names raw i)
+unfolding registers
+so-far-next raw i e =
+    let s = some-below raw i (λ q. e (low-bits raw i ∙ q)) in
+    sym (so-far-some (names raw i) (some-map regString (setBits raw i) s))
+
+-- one more text behind the names: alone, or behind a comma
+pub registers-then : (raw i : ℕ) (t : List ℕ) → joined (names raw i ++ (t ∷ [])) ≡ registers raw i ++ cond (eqb (bitRange raw 0 i) 0) t (text ", " ++ t)
 registers-then raw i t =
-    by-test (eqb (bitRange raw 0 i) 0)
-    (λ z. let n = none-below raw i (sym (low-bits raw i) ∙ eqb-true _ _ z) in rw (z, n))
-    (λ z. let s = some-below raw i (λ q. eqb-false _ _ z (low-bits raw i ∙ q)) in
-    rw z (joined-last (map regString (setBits raw i)) t (some-map regString (setBits raw i) s)))
+    joined-so-far (names raw i) t []
+    ∙ by-test (eqb (bitRange raw 0 i) 0)
+    (λ z. rw (z, so-far-first raw i (eqb-true _ _ z)))
+    (λ z. rw (z, ← so-far-next raw i (eqb-false _ _ z)) (append-assoc (registers raw i) (text ", ") t))
 
 pub registers-next : (raw i : ℕ) → registers raw (i + 1) ≡ registers raw i ++ listed raw i
 unfolding registers listed setBits

@@ -2,9 +2,9 @@
 use mathlib.Core.Path.{_≡_}
 use mathlib.Core.Bool.{cond}
 use mathlib.Core.List.{List, [], _∷_, _++_}
-use Prim.Native.Nat.{ℕ, _+_}
+use Prim.Native.Nat.{ℕ, _+_, _-_}
 use lib.Dec.{ltb}
-use lib.ListN.{length, set}
+use lib.ListN.{length, set, take, drop}
 
 -- a buffer, and the place of the next byte in it
 pub record Place : Type 0 where
@@ -30,3 +30,13 @@ pub record Wrote (l : List ℕ) (at : ℕ) (bs l′ : List ℕ) (r : ℕ) : Type
 -- The bytes x, and then the bytes y.
 pub record WroteBoth (l : List ℕ) (at : ℕ) (x y l′ : List ℕ) (r : ℕ) : Type 0 where
   pub whole : Wrote l at (x ++ y) l′ r
+
+-- those of the bytes bs that a buffer l has room for from the place at on
+abbrev pub fitting : List ℕ → ℕ → List ℕ → List ℕ
+fitting l at bs = take (length l - at) bs
+
+-- The place r stands directly behind the last of the bytes bs, which stand from the place at on in a buffer that held l and holds l′: the place is the start and
+-- the length of what stands there, and before the start and from the place on stand the buffer's own bytes. Where the buffer ends, place and bytes stop there.
+pub record Behind (l : List ℕ) (at : ℕ) (bs l′ : List ℕ) (r : ℕ) : Type 0 where
+  pub place : r ≡ at + length (fitting l at bs)
+  pub bytes : l′ ≡ take at l ++ fitting l at bs ++ drop r l

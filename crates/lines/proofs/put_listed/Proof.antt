@@ -1,20 +1,60 @@
 -- `lines::put_listed` meets its contract: what it writes is what its calls write, one after the other. Assumes nothing.
 use borrow.Author.Needs.{needs}
 use borrow.Author.Tests.{ne-eqb}
-use Rattle.lines.specs.Pieces.{listed}
+use denote.Ref.{now}
+use mathlib.Core.List.{List, []}
+use mathlib.Core.Path.{_∙_, sym}
+use Prim.Native.Nat.{ℕ}
+use Rattle.arm7tdmi.specs.Names.{regString}
+use Rattle.lines.proofs.Positions.{first-name, next-name}
+use Rattle.lines.specs.Pieces.{listed, registers}
+use Rattle.lines.specs.Position.{BeforeName, names}
 use Rattle.text.proofs.Wrote.{_⨾_, kept, nothing, same-as}
+use Rattle.text.specs.Wrote.{Behind}
 use Rattle.lines.proofs.put_listed.Statement.{statement}
 use Rattle.lines.proofs.put_listed.Tie as tie
 
+-- a name alone stands where no register is below it, another one behind a separator
+abbrev alone : tie.After-put-reg → tie.Then2
+alone c = c .before .before
+
+abbrev separator : tie.After-put-reg2 → tie.After-put-text
+separator c = c .before .before .before .before
+
+abbrev more : tie.After-put-text → tie.Else2
+more c = c .before .before .before
+
+-- what was given
+abbrev call : tie.After-bit-range → tie.Start
+call c = c .before .before .before .before
+
+-- before the name the position stands directly behind the last byte written, if the place that was given stands directly behind the registers below it
+module _ {l : List ℕ} {start : ℕ} where
+  pub before-first : (c : tie.After-put-reg) → let a = call (alone c .before) .args in Behind l start (registers (a .raw) (a .i)) (now (a .buf)) (a .at) → BeforeName l start (names (a .raw) (a .i)) (regString (a .i)) [] (c .put-reg .last .0) (c .put-reg .result)
+  before-first c b =
+      let d = alone c in
+      let a = call (d .before) .args in
+      first-name (a .raw) (a .i) b (sym (d .before .bit-range .ensures) ∙ d .if2 .taken) (c .put-reg .ensures)
+
+  pub before-next : (c : tie.After-put-reg2) → let a = call (more (separator c) .before) .args in Behind l start (registers (a .raw) (a .i)) (now (a .buf)) (a .at) → BeforeName l start (names (a .raw) (a .i)) (regString (a .i)) [] (c .put-reg2 .last .0) (c .put-reg2 .result)
+  before-next c b =
+      let d = more (separator c) in
+      let a = call (d .before) .args in
+      next-name (a .raw) (a .i) b (λ e. d .if2 .left (d .before .bit-range .ensures ∙ e)) (separator c .put-text .ensures) (c .put-reg2 .ensures)
+
 returns : tie.Need-returns
 unfolding listed
-returns c = same-as (c .before .before .put-reg .ensures) (rw (← c .before .before .before .before .before .before .before .bit .ensures, c .before .before .before .before .before .before .if1 .taken, ← c .before .before .before .before .before .bit-range .ensures, c .before .before .before .before .if2 .taken))
+returns c =
+    let n = c .before .before in
+    let d = alone n in
+    same-as (n .put-reg .ensures) (rw (← d .before .before .before .bit .ensures, d .before .before .if1 .taken, ← d .before .bit-range .ensures, d .if2 .taken))
 
 returns-2 : tie.Need-returns-2
 unfolding listed
 returns-2 c =
-    same-as (c .before .before .before .before .before .before .put-text .ensures ⨾ c .before .before .put-reg2 .ensures)
-    (rw (← c .before .before .before .before .before .before .before .before .before .before .before .before .bit .ensures, c .before .before .before .before .before .before .before .before .before .before .before .if1 .taken, ← c .before .before .before .before .before .before .before .before .before .before .bit-range .ensures, ne-eqb _ _ (c .before .before .before .before .before .before .before .before .before .if2 .left)))
+    let n = c .before .before in
+    let d = more (separator n) in
+    same-as (separator n .put-text .ensures ⨾ n .put-reg2 .ensures) (rw (← d .before .before .before .bit .ensures, d .before .before .if1 .taken, ← d .before .bit-range .ensures, ne-eqb _ _ (d .if2 .left)))
 
 returns-3 : tie.Need-returns-3
 unfolding listed
