@@ -103,7 +103,8 @@ fn clear_bits(raw: u32) -> u32
     }
 }
 
-// The registers below n of a list: clear bits are passed by, so that few branches are guessed wrong.
+// The registers below n of a list: clear bits are passed by, so that few branches are guessed wrong. The place of the next name is carried along and stands
+// directly behind the last byte written (specs/Position).
 pub fn put_registers(buf: &mut [u8], at: usize, raw: u32, n: u32) -> usize
     ensures { λ r. ⌜ Wrote (now (buf .entry)) at (registers raw n) (now (buf .exit)) r ⌝ }
 {

@@ -73,7 +73,7 @@ pub take-more : (s : List ℕ) (j : ℕ) → j < length s → take (j + 1) s ≡
 take-more s j h = rw (add-one, take-suc s j 0)
 
 -- ---- where the bytes stand
--- the buffer and the place behind the bytes, as `Behind` has them
+-- the buffer and the place that `Behind` says
 abbrev stand : List ℕ → ℕ → List ℕ → Place
 stand l at bs = record { held = take at l ++ fitting l at bs ++ drop (at + length (fitting l at bs)) l; next = at + length (fitting l at bs) }
 
@@ -90,7 +90,7 @@ stores-stand l at (b ∷ bs) =
     let k : length l - at ≡ 0 = omega arith in
     rw (e, stores-stand l at bs, k))
 
--- what was written stands so, and what stands so was written
+-- what was written stands as `Behind` says, and what stands so was written
 pub behind : {l : List ℕ} {at : ℕ} {bs l′ : List ℕ} {r : ℕ} → Wrote l at bs l′ r → Behind l at bs l′ r
 behind {l} {at} {bs} w =
     let e = w .after ∙ stores-stand l at bs in
@@ -103,11 +103,11 @@ wrote {l} {at} {bs} b = record { after = rw (b .bytes, b .place, stores-stand l 
 all-fit : (l : List ℕ) (at : ℕ) (bs : List ℕ) → at + length bs ≤ length l → fitting l at bs ≡ bs
 all-fit l at bs h = take-all (length l - at) bs (omega arith)
 
--- with room for all of the bytes
+-- with room for all of the bytes, the place is the start plus their number, and they stand there
 pub with-room : {l : List ℕ} {at : ℕ} {bs l′ : List ℕ} {r : ℕ} → Behind l at bs l′ r → at + length bs ≤ length l → (r ≡ at + length bs) × (l′ ≡ take at l ++ bs ++ drop r l)
 with-room {l} {at} {bs} b h = let f = all-fit l at bs h in (rw f at (b .place), rw f at (b .bytes))
 
--- where the buffer ends before all of them stand, or with the last
+-- where the buffer ends before them or with the last of them, place and bytes stop there together
 pub at-the-end : {l : List ℕ} {at : ℕ} {bs l′ : List ℕ} {r : ℕ} → Behind l at bs l′ r → at ≤ length l → length l ≤ at + length bs → (r ≡ length l) × (l′ ≡ take at l ++ fitting l at bs)
 at-the-end {l} {at} {bs} b h k =
     let n : length (fitting l at bs) ≡ length l - at = length-take-le (length l - at) bs (omega arith) in

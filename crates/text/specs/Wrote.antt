@@ -35,8 +35,9 @@ pub record WroteBoth (l : List ℕ) (at : ℕ) (x y l′ : List ℕ) (r : ℕ) :
 abbrev pub fitting : List ℕ → ℕ → List ℕ → List ℕ
 fitting l at bs = take (length l - at) bs
 
--- The place r stands directly behind the last of the bytes bs, which stand from the place at on in a buffer that held l and holds l′: the place is the start and
--- the length of what stands there, and before the start and from the place on stand the buffer's own bytes. Where the buffer ends, place and bytes stop there.
+-- The place r stands directly behind the last of the bytes bs, which were written from the place at on: the buffer held l and holds l′. The place is the start
+-- plus the length of what stands there; before the start, and from the place on, stand the buffer's own bytes. Where the buffer ends, place and bytes stop
+-- there together.
 pub record Behind (l : List ℕ) (at : ℕ) (bs l′ : List ℕ) (r : ℕ) : Type 0 where
   pub place : r ≡ at + length (fitting l at bs)
   pub bytes : l′ ≡ take at l ++ fitting l at bs ++ drop r l
