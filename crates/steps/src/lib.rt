@@ -1,0 +1,201 @@
+// The steps of a listing: what stands at a place of an image, and its sheet line into a lent buffer.
+ghost use mathlib.Core.Path.{_≡_};
+ghost use Prim.Native.Nat.{_+_};
+ghost use lib.Dec.{leb};
+ghost use lib.ListN.{length};
+ghost use Rattle.arm7tdmi.specs.Signed.{moved};
+ghost use Rattle.lines.specs.Answer.{printed};
+ghost use Rattle.image.specs.Refusal.{unit};
+ghost use Rattle.image.specs.Stretches.{left};
+ghost use Rattle.steps.specs.Steps.{callPair, stepLength, stepLine};
+ghost use Rattle.steps.specs.Listed.{listedNumber, listedOffset, listedBytes, listedLength, told, toldOf, listed, listStep};
+use arm_print::print_arm;
+use arm7tdmi::Form;
+use image::Set;
+use image::half_at;
+use image::refusal_at;
+use image::set_at;
+use image::word_at;
+use lines::Printed;
+use pairs::print::print_pair;
+use thumb::is_pair;
+use thumb_print::print_thumb;
+
+// What a step answers.
+pub enum Listed {
+    // offset, byte length, length of the line
+    Line(usize, usize, usize),
+    // the word is refused: number, offset, byte length
+    Refused(u32, usize, usize),
+    // the buffer is shorter than the line: offset
+    NoRoom(usize),
+    // the end mark: offset
+    End(usize),
+    // the image, its stretches or the place are refused: number
+    NoListing(u32),
+}
+
+impl Listed {
+    // The refusal's number, or 0.
+    pub fn number(self) -> u32
+        ensures { λ r. ⌜ r ≡ listedNumber self ⌝ }
+    {
+        match self {
+            Listed::Line(_, _, _) => 0,
+            Listed::Refused(number, _, _) => number,
+            Listed::NoRoom(_) => 3,
+            Listed::End(_) => 0,
+            Listed::NoListing(number) => number,
+        }
+    }
+
+    // The offset of the step, or of the end mark.
+    pub fn offset(self) -> usize
+        ensures { λ r. ⌜ r ≡ listedOffset self ⌝ }
+    {
+        match self {
+            Listed::Line(at, _, _) => at,
+            Listed::Refused(_, at, _) => at,
+            Listed::NoRoom(at) => at,
+            Listed::End(at) => at,
+            Listed::NoListing(_) => 0,
+        }
+    }
+
+    // How many bytes the listing moves on by.
+    pub fn bytes(self) -> usize
+        ensures { λ r. ⌜ r ≡ listedBytes self ⌝ }
+    {
+        match self {
+            Listed::Line(_, bytes, _) => bytes,
+            Listed::Refused(_, _, bytes) => bytes,
+            Listed::NoRoom(_) => 0,
+            Listed::End(_) => 0,
+            Listed::NoListing(_) => 0,
+        }
+    }
+
+    // The length of the line.
+    pub fn length(self) -> usize
+        ensures { λ r. ⌜ r ≡ listedLength self ⌝ }
+    {
+        match self {
+            Listed::Line(_, _, length) => length,
+            Listed::Refused(_, _, _) => 0,
+            Listed::NoRoom(_) => 0,
+            Listed::End(_) => 0,
+            Listed::NoListing(_) => 0,
+        }
+    }
+}
+
+// How many bytes a word of a set has.
+fn unit(s: Set) -> usize
+    ensures { λ r. ⌜ r ≡ unit s ⌝ }
+{
+    match s {
+        Set::Arm => 4,
+        Set::Thumb(_) => 2,
+    }
+}
+
+// Whether so many bytes of an image are left at a place.
+fn has_bytes(image: &[u8], at: usize, n: usize) -> bool
+    ensures { λ r. ⌜ r ≡ leb (at + n) (length (now (image .entry))) ⌝ }
+{
+    if image.len() < n {
+        return false;
+    }
+    at <= image.len() - n
+}
+
+// Whether a call pair stands at a place of a stretch that ends at e.
+fn call_pair(image: &[u8], e: usize, at: usize) -> bool
+    ensures { λ r. ⌜ r ≡ callPair (now (image .entry)) e at ⌝ }
+{
+    if e <= at {
+        return false;
+    }
+    if e - at < 4 {
+        return false;
+    }
+    is_pair(half_at(image, at) as u16, half_at(image, at + 2) as u16)
+}
+
+// The address of a place.
+fn address(base: u32, at: usize) -> u32
+    ensures { λ r. ⌜ r ≡ moved base at ⌝ }
+{
+    std::num::wrapping_add_u32(base, (at % 0x1_0000_0000) as u32)
+}
+
+// The answer of a step by what its print answered.
+fn told(at: usize, bytes: usize, p: Printed) -> Listed
+    ensures { λ r. ⌜ r ≡ told at bytes p ⌝ }
+{
+    let number = p.number;
+    if number == 0 {
+        return Listed::Line(at, bytes, p.length);
+    }
+    if number == 3 {
+        return Listed::NoRoom(at);
+    }
+    Listed::Refused(number, at, bytes)
+}
+
+// The step at a place that has a word of the set: its line into a buffer, or why not.
+fn print_step(image: &[u8], s: Set, base: u32, at: usize, line: &mut [u8]) -> Listed
+    ensures { λ r. ⌜ toldOf at (stepLength (now (image .entry)) s at) (printed (stepLine (now (image .entry)) s (moved base at) at) (now (line .entry))) ≡ (r, now (line .exit)) ⌝ }
+{
+    let p = address(base, at);
+    match s {
+        Set::Arm => told(
+            at,
+            4,
+            print_arm(Form::Sheet, word_at(image, at), p, line),
+        ),
+        Set::Thumb(e) => {
+            let first = half_at(image, at) as u16;
+            if call_pair(image, e, at) {
+                let second = half_at(image, at + 2) as u16;
+                return told(at, 4, print_pair(first, second, p, line));
+            }
+            told(at, 2, print_thumb(Form::Sheet, first, p, line))
+        }
+    }
+}
+
+// The step at a place, by the pairs from number next on.
+pub fn step_at<'a, 'l>(
+    image: &'a [u8],
+    stretches: &'a [u8],
+    next: usize,
+    base: u32,
+    at: usize,
+    line: &'l mut [u8],
+) -> Listed
+    ensures { λ r. ⌜ listed (now (image .entry)) (left (now (stretches .entry)) next) base at (now (line .entry)) ≡ (r, now (line .exit)) ⌝ }
+{
+    let s = set_at(stretches, next, at);
+    if has_bytes(image, at, unit(s)) {
+        return print_step(image, s, base, at, line);
+    }
+    Listed::End(at)
+}
+
+// One step of the listing of an image, at any place: a place where no step begins is refused.
+pub fn list_step<'a, 'l>(
+    image: &'a [u8],
+    stretches: &'a [u8],
+    base: u32,
+    at: usize,
+    line: &'l mut [u8],
+) -> Listed
+    ensures { λ r. ⌜ listStep (now (image .entry)) (now (stretches .entry)) base at (now (line .entry)) ≡ (r, now (line .exit)) ⌝ }
+{
+    let number = refusal_at(image, stretches, at);
+    if number == 0 {
+        return step_at(image, stretches, 0, base, at, line);
+    }
+    Listed::NoListing(number)
+}
