@@ -7,7 +7,7 @@ use Rattle.lines.specs.Answer.{printed}
 use Rattle.lines.specs.declared.Printed.{Printed}
 use Rattle.image.specs.Refusal.{refusalAt}
 use Rattle.image.specs.Stretches.{Stretch, pairs}
-use Rattle.steps.specs.Steps.{Step, stepAt, hasWord}
+use Rattle.steps.specs.Steps.{Step, stepOf, spanAt, hasStep}
 use Rattle.steps.specs.declared.Listed.{Listed}
 use Rattle.steps.specs.declared.Listed.the-variants.{Line, Refused, NoRoom, End, NoListing}
 
@@ -62,7 +62,7 @@ answered s l = toldOf (s .offset) (s .bytes) (printed (s .shows) l)
 
 -- of an image at a place, by some stretches. "At the image's end the answer is an end mark, its offset the place and its byte length 0"
 unfoldable pub listed : List ℕ → List Stretch → ℕ → ℕ → List ℕ → Listed × List ℕ
-listed image ss base at l = cond (hasWord image ss at) (answered (stepAt image ss base at) l) (End at, l)
+listed image ss base at l = cond (hasStep image ss at) (answered (stepOf image (spanAt image ss at) base at) l) (End at, l)
 
 -- of one step of a listing of any image at any place: 6, 7 or 8, or the step
 unfoldable pub listStep : List ℕ → List ℕ → ℕ → ℕ → List ℕ → Listed × List ℕ

@@ -13,24 +13,32 @@ use Rattle.thumb.specs.Pair.{isPair}
 use Rattle.thumb_print.specs.Print.{thumbLine}
 use Rattle.pairs.specs.Print.{pairLine}
 use Rattle.image.specs.Bytes.{half, word}
-use Rattle.image.specs.Refusal.{unit}
 use Rattle.image.specs.Stretches.{Stretch, pairs, setAt}
 use Rattle.image.specs.declared.Set.{Set}
 use Rattle.image.specs.declared.Set.the-variants.{Arm, Thumb}
+use Rattle.steps.specs.declared.Span.{Span}
+use Rattle.steps.specs.declared.Span.the-variants.{Word, Half, Pair}
 
 -- "A call pair inside one stretch", which ends at e
 unfoldable pub callPair : List ℕ → ℕ → ℕ → Bool
 callPair image e at = leb (at + 4) e && isPair (half image at) (half image (at + 2))
 
--- how many bytes a step has, by the set at its place: "A call pair inside one stretch is one step of 4 bytes"
-unfoldable pub stepLength : List ℕ → Set → ℕ → ℕ
-stepLength image Arm at = 4
-stepLength image (Thumb e) at = cond (callPair image e at) 4 2
+-- what a step covers, by the set at its place: "A call pair inside one stretch is one step"
+unfoldable pub spanIn : List ℕ → Set → ℕ → Span
+spanIn image Arm at = Word
+spanIn image (Thumb e) at = cond (callPair image e at) Pair Half
+
+-- how many bytes that is: a call pair is a "step of 4 bytes"
+abbrev pub spanBytes : Span → ℕ
+spanBytes Word = 4
+spanBytes Half = 2
+spanBytes Pair = 4
 
 -- what it shows at an address p: "a sheet line, or refusal 1 or 2 for that word"
-unfoldable pub stepLine : List ℕ → Set → ℕ → ℕ → Answer
-stepLine image Arm p at = armLine Sheet p (word image at)
-stepLine image (Thumb e) p at = cond (callPair image e at) (pairLine p (half image at) (half image (at + 2))) (thumbLine Sheet p (half image at))
+unfoldable pub spanLine : List ℕ → Span → ℕ → ℕ → Answer
+spanLine image Word p at = armLine Sheet p (word image at)
+spanLine image Half p at = thumbLine Sheet p (half image at)
+spanLine image Pair p at = pairLine p (half image at) (half image (at + 2))
 
 -- "Each step gives an offset, a byte length and a sheet line, or refusal"
 pub record Step : Type 0 where
@@ -38,20 +46,22 @@ pub record Step : Type 0 where
   pub bytes : ℕ
   pub shows : Answer
 
--- the step at a place, by some stretches. "Its address is the base plus the offset, modulo 2^32."
-abbrev pub stepAt : List ℕ → List Stretch → ℕ → ℕ → Step
-stepAt image ss base at =
-    record { offset = at; bytes = stepLength image (setAt ss at) at; shows = stepLine image (setAt ss at) (moved base at) at }
+-- the step of a span at a place. "Its address is the base plus the offset, modulo 2^32."
+abbrev pub stepOf : List ℕ → Span → ℕ → ℕ → Step
+stepOf image x base at = record { offset = at; bytes = spanBytes x; shows = spanLine image x (moved base at) at }
 
--- whether there is one: a word of the set at that place is left of the image
-abbrev pub hasWord : List ℕ → List Stretch → ℕ → Bool
-hasWord image ss at = leb (at + unit (setAt ss at)) (length image)
+-- the span at a place by some stretches, and whether the image has all of its bytes
+abbrev pub spanAt : List ℕ → List Stretch → ℕ → Span
+spanAt image ss at = spanIn image (setAt ss at) at
+
+abbrev pub hasStep : List ℕ → List Stretch → ℕ → Bool
+hasStep image ss at = leb (at + spanBytes (spanAt image ss at)) (length image)
 
 -- ".. and moves on by that length": the steps from a place on, at most as many as the fuel
 unfoldable pub stepsFor : List ℕ → List Stretch → ℕ → ℕ → ℕ → List Step
 stepsFor image ss base at zero = []
 stepsFor image ss base at (suc fuel) =
-    cond (hasWord image ss at) (stepAt image ss base at ∷ stepsFor image ss base (at + stepLength image (setAt ss at) at) fuel) []
+    cond (hasStep image ss at) (stepOf image (spanAt image ss at) base at ∷ stepsFor image ss base (at + spanBytes (spanAt image ss at)) fuel) []
 
 -- the listing of an image with a base from a place on: no more steps than bytes, as each has two at least
 unfoldable pub steps : List ℕ → List ℕ → ℕ → ℕ → List Step

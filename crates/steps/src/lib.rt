@@ -1,14 +1,13 @@
 // The steps of a listing: what stands at a place of an image, and its sheet line into a lent buffer.
 ghost use mathlib.Core.Path.{_≡_};
-ghost use Prim.Native.Nat.{_+_};
+ghost use Prim.Native.Nat.{_+_, _≤_};
 ghost use lib.Dec.{leb};
 ghost use lib.ListN.{length};
 ghost use Rattle.arm7tdmi.specs.Signed.{moved};
 ghost use Rattle.lines.specs.Answer.{printed};
-ghost use Rattle.image.specs.Refusal.{unit};
 ghost use Rattle.image.specs.Stretches.{left};
-ghost use Rattle.steps.specs.Steps.{callPair, stepLength, stepLine};
-ghost use Rattle.steps.specs.Listed.{listedNumber, listedOffset, listedBytes, listedLength, told, toldOf, listed, listStep};
+ghost use Rattle.steps.specs.Steps.{callPair, spanIn, spanBytes, spanLine};
+ghost use Rattle.steps.specs.Listed.{listedNumber, listedOffset, listedBytes, listedLength, told, listed, listStep};
 use arm_print::print_arm;
 use arm7tdmi::Form;
 use image::Set;
@@ -20,6 +19,13 @@ use lines::Printed;
 use pairs::print::print_pair;
 use thumb::is_pair;
 use thumb_print::print_thumb;
+
+// What a step covers: an ARM word, a Thumb halfword, or the two halfwords of a call.
+pub enum Span {
+    Word,
+    Half,
+    Pair,
+}
 
 // What a step answers.
 pub enum Listed {
@@ -89,16 +95,6 @@ impl Listed {
     }
 }
 
-// How many bytes a word of a set has.
-fn unit(s: Set) -> usize
-    ensures { λ r. ⌜ r ≡ unit s ⌝ }
-{
-    match s {
-        Set::Arm => 4,
-        Set::Thumb(_) => 2,
-    }
-}
-
 // Whether so many bytes of an image are left at a place.
 fn has_bytes(image: &[u8], at: usize, n: usize) -> bool
     ensures { λ r. ⌜ r ≡ leb (at + n) (length (now (image .entry))) ⌝ }
@@ -122,6 +118,32 @@ fn call_pair(image: &[u8], e: usize, at: usize) -> bool
     is_pair(half_at(image, at) as u16, half_at(image, at + 2) as u16)
 }
 
+// What a step covers at a place, by the set there.
+fn span_in(image: &[u8], s: Set, at: usize) -> Span
+    ensures { λ r. ⌜ r ≡ spanIn (now (image .entry)) s at ⌝ }
+{
+    match s {
+        Set::Arm => Span::Word,
+        Set::Thumb(e) => {
+            if call_pair(image, e, at) {
+                return Span::Pair;
+            }
+            Span::Half
+        }
+    }
+}
+
+// How many bytes that is.
+fn span_bytes(x: Span) -> usize
+    ensures { λ r. ⌜ r ≡ spanBytes x ⌝ }
+{
+    match x {
+        Span::Word => 4,
+        Span::Half => 2,
+        Span::Pair => 4,
+    }
+}
+
 // The address of a place.
 fn address(base: u32, at: usize) -> u32
     ensures { λ r. ⌜ r ≡ moved base at ⌝ }
@@ -143,25 +165,20 @@ fn told(at: usize, bytes: usize, p: Printed) -> Listed
     Listed::Refused(number, at, bytes)
 }
 
-// The step at a place that has a word of the set: its line into a buffer, or why not.
-fn print_step(image: &[u8], s: Set, base: u32, at: usize, line: &mut [u8]) -> Listed
-    ensures { λ r. ⌜ toldOf at (stepLength (now (image .entry)) s at) (printed (stepLine (now (image .entry)) s (moved base at) at) (now (line .entry))) ≡ (r, now (line .exit)) ⌝ }
+// What a step shows, into a buffer.
+fn print_span(image: &[u8], x: Span, pc: u32, at: usize, line: &mut [u8]) -> Printed
+    requires { ⌜ at + spanBytes x ≤ length (now image) ⌝ }
+    ensures { λ r. ⌜ printed (spanLine (now (image .entry)) x pc at) (now (line .entry)) ≡ (r, now (line .exit)) ⌝ }
 {
-    let p = address(base, at);
-    match s {
-        Set::Arm => told(
-            at,
-            4,
-            print_arm(Form::Sheet, word_at(image, at), p, line),
+    match x {
+        Span::Word => print_arm(Form::Sheet, word_at(image, at), pc, line),
+        Span::Half => print_thumb(Form::Sheet, half_at(image, at) as u16, pc, line),
+        Span::Pair => print_pair(
+            half_at(image, at) as u16,
+            half_at(image, at + 2) as u16,
+            pc,
+            line,
         ),
-        Set::Thumb(e) => {
-            let first = half_at(image, at) as u16;
-            if call_pair(image, e, at) {
-                let second = half_at(image, at + 2) as u16;
-                return told(at, 4, print_pair(first, second, p, line));
-            }
-            told(at, 2, print_thumb(Form::Sheet, first, p, line))
-        }
     }
 }
 
@@ -176,14 +193,15 @@ pub fn step_at<'a, 'l>(
 ) -> Listed
     ensures { λ r. ⌜ listed (now (image .entry)) (left (now (stretches .entry)) next) base at (now (line .entry)) ≡ (r, now (line .exit)) ⌝ }
 {
-    let s = set_at(stretches, next, at);
-    if has_bytes(image, at, unit(s)) {
-        return print_step(image, s, base, at, line);
+    let x = span_in(image, set_at(stretches, next, at), at);
+    let bytes = span_bytes(x);
+    if has_bytes(image, at, bytes) {
+        return told(at, bytes, print_span(image, x, address(base, at), at, line));
     }
     Listed::End(at)
 }
 
-// One step of the listing of an image, at any place: a place where no step begins is refused.
+// One step of the listing of an image, at any place; 6, 7 or 8 where image, stretches or place are refused.
 pub fn list_step<'a, 'l>(
     image: &'a [u8],
     stretches: &'a [u8],

@@ -1,0 +1,99 @@
+// The listing of an image, step by step: a struct that holds the lent image and the place that the listing has come to.
+ghost use mathlib.Core.Path.{_≡_};
+ghost use Rattle.image.specs.Refusal.{refusal};
+ghost use Rattle.image.specs.Stretches.{firstLeft, left};
+ghost use Rattle.steps.specs.Listed.{listed, nextPlace};
+ghost use Rattle.listing.specs.Listing.{heldOf, Opened, Stepped-is};
+use image::first_left;
+use image::refusal;
+use steps::Listed;
+use steps::step_at;
+
+// An image and its Thumb stretches, lent, with the address of the image's first byte; 6 or 7 where they were refused, or 0; the place; and the number of
+// the first pair that may still tell of it.
+pub struct Listing<'a> {
+    pub image: &'a [u8],
+    pub stretches: &'a [u8],
+    pub base: u32,
+    pub number: u32,
+    pub at: usize,
+    pub next: usize,
+}
+
+// What a step answers, and where the listing stands behind it.
+pub struct Stepped {
+    pub listed: Listed,
+    pub at: usize,
+    pub next: usize,
+}
+
+// 6 or 7, or 0.
+pub fn opening<'a>(image: &'a [u8], stretches: &'a [u8]) -> u32
+    ensures { λ r. ⌜ r ≡ refusal (now (image .entry)) (now (stretches .entry)) ⌝ }
+{
+    refusal(image, stretches)
+}
+
+// All bytes, or none of them where the opening is refused.
+pub fn held<'a>(s: &'a [u8], number: u32) -> &'a [u8]
+    ensures { λ r. ⌜ now r ≡ heldOf (now (s .entry)) number ⌝ }
+{
+    if number == 0 {
+        return s;
+    }
+    &s[..0]
+}
+
+// A step at a place, by the pairs from number next on.
+pub fn step_on<'a, 'l>(
+    image: &'a [u8],
+    stretches: &'a [u8],
+    base: u32,
+    at: usize,
+    next: usize,
+    line: &'l mut [u8],
+) -> Stepped
+    ensures { λ r. ⌜ (listed (now (image .entry)) (left (now (stretches .entry)) next) base at (now (line .entry)) ≡ (r .listed, now (line .exit))) × (r .at ≡ nextPlace (r .listed)) × (r .next ≡ firstLeft (now (stretches .entry)) next at) ⌝ }
+{
+    let i = first_left(stretches, next, at);
+    let s = step_at(image, stretches, i, base, at, line);
+    Stepped {
+        listed: s,
+        at,
+        next: i,
+    }
+}
+
+// A listing of an image from its start.
+pub fn open<'a>(image: &'a [u8], stretches: &'a [u8], base: u32) -> Listing<'a>
+    ensures { λ r. ⌜ Opened (now (image .entry)) (now (stretches .entry)) base r ⌝ }
+{
+    let number = opening(image, stretches);
+    let xs = held(image, number);
+    let ss = held(stretches, number);
+    Listing {
+        image: xs,
+        stretches: ss,
+        base,
+        number,
+        at: 0,
+        next: 0,
+    }
+}
+
+// The place that a listing has come to.
+pub fn offset<'a>(l: Listing<'a>) -> usize
+    ensures { λ r. ⌜ r ≡ l .entry .at ⌝ }
+{
+    l.at
+}
+
+// One step of a listing.
+pub fn step<'s, 'a, 'l>(l: &'s mut Listing<'a>, line: &'l mut [u8]) -> Listed
+    ensures { λ r. ⌜ Stepped-is (now (l .entry)) (now (line .entry)) r (now (line .exit)) (now (l .exit)) ⌝ }
+{
+    let s = step_on(l.image, l.stretches, l.base, l.at, l.next, line);
+    l.at = s.at;
+    l.next = s.next;
+    s.listed
+}
