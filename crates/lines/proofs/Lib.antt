@@ -2,3 +2,4 @@ pub mod Registers
 pub mod Positions
 pub mod Lengths
 pub mod Address
+pub mod Whole

@@ -25,8 +25,8 @@ pub record Opened (image list : List ℕ) (base : ℕ) (l : Listing) : Type 0 wh
   pub next-first : l .next ≡ 0
 
 -- the answer of a step of a listing l into a buffer that holds ys, and what the buffer holds then
-abbrev pub stepOf : Listing → List ℕ → Listed × List ℕ
-stepOf l ys = listed (now (l .image)) (left (now (l .stretches)) (l .next)) (l .base) (l .at) ys
+abbrev pub stepFrom : Listing → List ℕ → Listed × List ℕ
+stepFrom l ys = listed (now (l .image)) (left (now (l .stretches)) (l .next)) (l .base) (l .at) ys
 
 -- the listing behind an answer r: it stands at the next place, and passes by the pairs that ended before this one
 abbrev pub movedOn : Listing → Listed → Listing
@@ -34,5 +34,5 @@ movedOn l r = record { image = l .image; stretches = l .stretches; base = l .bas
 
 -- one step: the answer r and the buffer's bytes zs, and the listing l′ behind it
 pub record Stepped-is (l : Listing) (ys : List ℕ) (r : Listed) (zs : List ℕ) (l′ : Listing) : Type 0 where
-  pub answer : stepOf l ys ≡ (r, zs)
+  pub answer : stepFrom l ys ≡ (r, zs)
   pub after : l′ ≡ movedOn l r

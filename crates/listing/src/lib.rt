@@ -28,14 +28,14 @@ pub struct Stepped {
 }
 
 // 6 or 7, or 0.
-pub fn opening<'a>(image: &'a [u8], stretches: &'a [u8]) -> u32
+fn opening<'a>(image: &'a [u8], stretches: &'a [u8]) -> u32
     ensures { λ r. ⌜ r ≡ refusal (now (image .entry)) (now (stretches .entry)) ⌝ }
 {
     refusal(image, stretches)
 }
 
 // All bytes, or none of them where the opening is refused.
-pub fn held<'a>(s: &'a [u8], number: u32) -> &'a [u8]
+fn held<'a>(s: &'a [u8], number: u32) -> &'a [u8]
     ensures { λ r. ⌜ now r ≡ heldOf (now (s .entry)) number ⌝ }
 {
     if number == 0 {
@@ -56,10 +56,10 @@ pub fn step_on<'a, 'l>(
     ensures { λ r. ⌜ (listed (now (image .entry)) (left (now (stretches .entry)) next) base at (now (line .entry)) ≡ (r .listed, now (line .exit))) × (r .at ≡ nextPlace (r .listed)) × (r .next ≡ firstLeft (now (stretches .entry)) next at) ⌝ }
 {
     let i = first_left(stretches, next, at);
-    let s = step_at(image, stretches, i, base, at, line);
+    let listed = step_at(image, stretches, i, base, at, line);
     Stepped {
-        listed: s,
-        at,
+        listed,
+        at: at + listed.bytes(),
         next: i,
     }
 }

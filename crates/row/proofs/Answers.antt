@@ -11,14 +11,11 @@ use native.Mathlib.Nat.{add-suc, mod-eq-of-lt, pow-le-pow-right, pow-suc, suc-ad
 use native.Mathlib.Numerals.{add-one}
 use native.Mathlib.Omega.{arith}
 use Rattle.lines.specs.Answer.{Answer, refused, line, given, printed}
-use Rattle.arm.specs.Kinds.{armFormat}
-use Rattle.thumb.specs.Kinds.{thumbFormat}
-use Rattle.arm7tdmi.specs.declared.Form.{Form}
+use Rattle.lines.proofs.Whole.{Whole}
 use Rattle.arm7tdmi.specs.declared.Form.the-variants.{Bench}
-use Rattle.arm_print.specs.Print.{answerOf, armLine, isHalfword, printsCond}
+use Rattle.arm_print.proofs.Whole.{arm-whole}
 use Rattle.common.proofs.Tests.{and-left, and-right, at, by-test}
 use Rattle.common.proofs.Lists.{part-rest}
-use Rattle.common.specs.Bits.{bitRange}
 use Rattle.row.specs.Row.{addressDigits, answerText, fieldsOf, hexNumber, isHex, isRow, wordDigits, wordLine}
 use Rattle.row.specs.declared.Fields.the-variants.{Both, Nothing}
 use Rattle.row.specs.declared.Word.{Word}
@@ -29,23 +26,8 @@ use Rattle.text.specs.Wrote.{Wrote}
 use Rattle.text.proofs.Within.{dec-within}
 use Rattle.text.proofs.Wrote.{placed}
 use Rattle.text.specs.Word.{all}
-use Rattle.arm_disass.proofs.Lengths.{line-within}
-use Rattle.thumb_disass.proofs.Lengths as Lengths
-use Rattle.thumb_print.specs.Print.{thumbLine}
+use Rattle.thumb_print.proofs.Lengths.{thumb-whole}
 use Rattle.lines.specs.declared.Printed.{Printed}
-
--- a refusal has a number, and a line has room in 80 bytes
-abbrev pub Whole : Answer → Type 0
-Whole (refused n) = 0 < n
-Whole (line bs) = length bs ≤ 80
-
-pub arm-whole : (form : Form) (pc raw : ℕ) → Whole (armLine form pc raw)
-unfolding armLine answerOf
-arm-whole form pc raw =
-    let fmt = armFormat form raw in
-    let w = line-within form fmt pc raw in
-    by-test (printsCond form fmt && eqb (bitRange raw 28 32) 15) (λ e. rw e (omega arith))
-    (λ e. rw e (by-test (isHalfword fmt && eqb (bitRange raw 5 7) 0) (λ d. rw d (omega arith)) (λ d. rw d (w .most))))
 
 pub answer-short : (a : Answer) → Whole a → length (answerText a) ≤ 80
 unfolding answerText
@@ -59,7 +41,7 @@ module _ (l m : List ℕ) (p : Printed) (room : 80 ≤ length l) where
   unfolding printed answerText
   shown-line (refused n) w e z =
       let q : n ≡ p .number = ap (λ (z : Printed × List ℕ). z .0 .number) e in
-      absurd (let k : n ≡ 0 = q ∙ z in omega arith)
+      absurd (let k : n ≡ 0 = q ∙ z in omega (arith, w .0))
   shown-line (line bs) w e z =
       let f : ltb (length l) (length bs) ≡ false = le-ltb (length l) (length bs) (omega arith) in
       let g : given bs l ≡ (p, m) = rw f at e in
@@ -179,10 +161,6 @@ four-small l h e =
     let s = value-small 0 0 l (omega arith) (omega arith) e in
     let p = pow-le-pow-right {n = 16} (omega arith) {i = length l + 0} {j = 4} (omega arith) in
     omega (s, p, arith)
-
-pub thumb-whole : (form : Form) (pc raw : ℕ) → Whole (thumbLine form pc raw)
-unfolding thumbLine
-thumb-whole form pc raw = Lengths.line-within form (thumbFormat form raw) pc raw .most
 
 -- how long a row is
 pub row-length : (letter n : ℕ) (l : List ℕ) → isRow letter n l ≡ true → length l ≡ 11 + n

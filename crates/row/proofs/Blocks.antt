@@ -12,7 +12,9 @@ use Rattle.arm7tdmi.specs.declared.Form.the-variants.{Bench}
 use Rattle.arm_print.specs.Print.{armLine}
 use Rattle.common.proofs.Tests.{by-test}
 use Rattle.common.specs.Lists.{find, first}
-use Rattle.row.proofs.Answers.{answer-short, arm-whole, row-length, thumb-whole}
+use Rattle.arm_print.proofs.Whole.{arm-whole}
+use Rattle.thumb_print.proofs.Lengths.{thumb-whole}
+use Rattle.row.proofs.Answers.{answer-short, row-length}
 use Rattle.row.specs.Block.{Answered, allAnswers, answerLine, answers, atStart, blockwise, heldOf, lastAnswer, unfinished}
 use Rattle.row.specs.Row.{addressDigits, isRow, rowAnswer, wordDigits}
 use Rattle.row.specs.declared.block.Left.{Left}

@@ -4,8 +4,8 @@ use mathlib.Core.Bool.{true, false, true≢false}
 use mathlib.Core.List.{List, [], _∷_}
 use Prim.Native.Nat.{ℕ, zero, suc, _+_, _*_, _-_, _%_, _<_, _≤_}
 use native.Mathlib.Omega.{arith}
-use borrow.Author.Tests.{le-leb, lt-leb, leb-true, leb-false, ltb-false, ltb-true}
-use lib.Dec.{leb, ltb}
+use borrow.Author.Tests.{le-leb, lt-leb, leb-true, ltb-false, ltb-true}
+use lib.Dec.{ltb}
 use lib.ListN.{length}
 use Rattle.common.proofs.Tests.{by-test}
 use Rattle.image.specs.Stretches.{Stretch, pairs, setAt}
@@ -40,7 +40,7 @@ module _ (image : List ℕ) (ss : List Stretch) where
 
   module _ (base : ℕ) where
     -- more fuel than bytes left changes nothing
-    enough : (f g at : ℕ) → length image - at ≤ f → length image - at ≤ g → stepsFor image ss base at f ≡ stepsFor image ss base at g
+    pub enough : (f g at : ℕ) → length image - at ≤ f → length image - at ≤ g → stepsFor image ss base at f ≡ stepsFor image ss base at g
     unfolding stepsFor
     enough zero zero at h k = refl
     enough zero (suc g) at h k = rw (no-step at (omega arith))

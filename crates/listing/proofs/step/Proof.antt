@@ -53,7 +53,7 @@ use Rattle.steps.specs.Listed.{nextPlace}
 use Rattle.steps.specs.declared.Listed.{Listed}
 use Rattle.steps.proofs.Listed as E
 use Rattle.steps.proofs.Listed.Laws as E′
-use Rattle.listing.specs.Listing.{stepOf, Stepped-is}
+use Rattle.listing.specs.Listing.{stepFrom, Stepped-is}
 use Rattle.listing.specs.declared.Listing.{Listing}
 use Rattle.listing.specs.declared.Stepped.{Stepped}
 use Rattle.listing.proofs.Listing as T
@@ -186,7 +186,7 @@ module _ {M : Type 1} (𝓤 : URA M) (H : Heap 𝓤) (A : Atoms 𝓤) (W : Given
       fsplit ! $ move ! (1 ∷ []) $ drop ! $ done !)
 
   abbrev Said : Stepped → List ℕ → Type 0
-  Said r zs = (stepOf h ys ≡ (r .listed, zs)) × (r .at ≡ nextPlace (r .listed)) × (r .next ≡ firstLeft (now (h .stretches)) (h .next) (h .at))
+  Said r zs = (stepFrom h ys ≡ (r .listed, zs)) × (r .at ≡ nextPlace (r .listed)) × (r .next ≡ firstLeft (now (h .stretches)) (h .next) (h .at))
 
   -- what the contract says, of what `step_on` ensures
   stepped : (r : Stepped) (zs : List ℕ) → Said r zs → Stepped-is h ys (r .listed) zs (h′ r)

@@ -1,0 +1,107 @@
+-- The steps of a listing that holds its place: they are those of the image, whatever number of a pair it carries. Assumes nothing.
+use mathlib.Core.Path.{_≡_, refl, ap, sym, _∙_}
+use mathlib.Core.Bool.{true, false, cond}
+use mathlib.Core.List.{List, [], _∷_, _++_}
+use Prim.Native.Nat.{ℕ, zero, suc, _+_, _-_, _<_, _≤_}
+use native.Mathlib.Omega.{arith}
+use borrow.Author.Tests.{eq-eqb, ne-eqb}
+use denote.Ref.{now}
+use lib.Dec.{eqb}
+use lib.ListN.{length, drop, length-append, length-drop}
+use lib.Seq.{take-at}
+use Rattle.common.proofs.Tests.{by-test}
+use Rattle.arm7tdmi.specs.Signed.{moved}
+use Rattle.lines.specs.Answer.{Answer, refused, line}
+use Rattle.lines.proofs.Whole.{Whole}
+use Rattle.image.specs.Refusal.{refusal, refusalAt}
+use Rattle.image.specs.Stretches.{Stretch, pairs}
+use Rattle.image.proofs.Stretches.{Carried, carried-start, carried-on}
+use Rattle.steps.specs.Steps.{Step, stepOf, spanAt, spanBytes, spanLine, hasStep, stepsFor, steps}
+use Rattle.steps.specs.Listed.{listed, listStep, listedBytes, nextPlace}
+use Rattle.steps.specs.declared.Listed.{Listed}
+use Rattle.steps.specs.declared.Listed.the-variants.{Line, Refused, End}
+use Rattle.steps.proofs.Steps.{enough, no-step}
+use Rattle.steps.specs.declared.Span.{Span}
+use Rattle.steps.proofs.Answers.{listed-end, listed-line, listed-refused, listed-same, span-whole}
+use Rattle.listing.specs.declared.Listing.{Listing}
+use Rattle.listing.specs.Listing.{heldOf, Opened, stepFrom, movedOn}
+use Rattle.listing.specs.Run.{run, shown}
+
+-- ---- the number of a pair that a listing carries
+-- the pairs from that number on tell all that is to come
+abbrev pub Tells : Listing → Type 0
+Tells l = Carried (now (l .stretches)) (l .next) (l .at)
+
+-- so a step answers what one by all pairs does: the number changes no answer
+pub same-answer : (l : Listing) (ys : List ℕ) → Tells l → stepFrom l ys ≡ listed (now (l .image)) (pairs (now (l .stretches))) (l .base) (l .at) ys
+same-answer l ys c = listed-same (now (l .image)) _ (pairs (now (l .stretches))) (l .base) (l .at) ys (c (l .at) (omega arith))
+
+-- a listing that is opened carries such a number, and a step carries one on
+pub opened-tells : (image list : List ℕ) (base : ℕ) (l : Listing) → Opened image list base l → Tells l
+opened-tells image list base l o = rw (o .next-first) (carried-start (now (l .stretches)) (l .at))
+
+pub moved-tells : (l : Listing) (r : Listed) → l .at ≤ nextPlace r → Tells l → Tells (movedOn l r)
+moved-tells l r h c = λ k g. carried-on (now (l .stretches)) (l .next) (l .at) c k (omega arith)
+
+-- ---- a run
+-- one call where there is a step, by what the calls behind it give
+one-call : (l : Listing) (ys : List ℕ) (calls : ℕ) → Tells l → 80 ≤ length ys → hasStep (now (l .image)) (pairs (now (l .stretches))) (l .at) ≡ true
+    → ((r : Listed) (zs : List ℕ) → 80 ≤ length zs → nextPlace r ≡ l .at + spanBytes (spanAt (now (l .image)) (pairs (now (l .stretches))) (l .at))
+    → run (movedOn l r) zs calls ≡ stepsFor (now (l .image)) (pairs (now (l .stretches))) (l .base) (l .at + spanBytes (spanAt (now (l .image)) (pairs (now (l .stretches))) (l .at))) calls)
+    → shown (stepFrom l ys .0) (stepFrom l ys .1) (run (movedOn l (stepFrom l ys .0)) (stepFrom l ys .1) calls)
+    ≡ stepOf (now (l .image)) (spanAt (now (l .image)) (pairs (now (l .stretches))) (l .at)) (l .base) (l .at)
+    ∷ stepsFor (now (l .image)) (pairs (now (l .stretches))) (l .base) (l .at + spanBytes (spanAt (now (l .image)) (pairs (now (l .stretches))) (l .at))) calls
+one-call l ys calls c room t ih = by-answer (spanLine image x p (l .at)) refl (span-whole image x p (l .at))
+  where
+    abbrev image : List ℕ
+    image = now (l .image)
+
+    abbrev ss : List Stretch
+    ss = pairs (now (l .stretches))
+
+    abbrev x : Span
+    x = spanAt image ss (l .at)
+
+    abbrev p : ℕ
+    p = moved (l .base) (l .at)
+
+    by-answer : (b : Answer) → spanLine image x p (l .at) ≡ b → Whole b
+        → shown (stepFrom l ys .0) (stepFrom l ys .1) (run (movedOn l (stepFrom l ys .0)) (stepFrom l ys .1) calls)
+        ≡ stepOf image x (l .base) (l .at) ∷ stepsFor image ss (l .base) (l .at + spanBytes x) calls
+    by-answer (refused k) e w =
+        let a = same-answer l ys c ∙ listed-refused image ss (l .base) (l .at) ys t k e w in
+        rw (a, e, ih (Refused k (l .at) (spanBytes x)) ys room refl)
+    by-answer (line bs) e w =
+        let zs = bs ++ drop (length bs) ys in
+        let a = same-answer l ys c ∙ listed-line image ss (l .base) (l .at) ys t bs e w room in
+        let n : 80 ≤ length zs = simp (length-append, length-drop) (omega arith) in
+        rw (a, e, take-at bs (drop (length bs) ys) (length bs) refl, ih (Line (l .at) (spanBytes x) (length bs)) zs n refl)
+
+-- all calls
+run-for : (calls : ℕ) (l : Listing) (ys : List ℕ) → Tells l → 80 ≤ length ys → run l ys calls ≡ stepsFor (now (l .image)) (pairs (now (l .stretches))) (l .base) (l .at) calls
+unfolding run stepsFor
+run-for zero l ys c room = refl
+run-for (suc calls) l ys c room =
+    let image = now (l .image) in
+    let ss = pairs (now (l .stretches)) in
+    let ih = run-for calls in
+    by-test (hasStep image ss (l .at))
+    (λ t. rw t (one-call l ys calls c room t (λ r zs n e. ap (λ (k : ℕ). stepsFor image ss (l .base) k calls) e ∙∙ ih (movedOn l r) zs (moved-tells l r (omega (arith, e)) c) n)))
+    (λ t. rw (t, same-answer l ys c ∙ listed-end image ss (l .base) (l .at) ys t))
+
+-- "Over a full listing": a listing that was opened, run into a buffer of 80 bytes or more in as many calls as there are bytes or more, shows just the
+-- steps of the image; and a "listing refused with 6 or 7 holds no bytes", so none
+pub run-steps : (image list : List ℕ) (base : ℕ) (l : Listing) (ys : List ℕ) (calls : ℕ) → Opened image list base l → refusal image list ≡ 0 → 80 ≤ length ys → length image ≤ calls
+    → run l ys calls ≡ steps image list base 0
+unfolding heldOf steps
+run-steps image list base l ys calls o e room h =
+    let xs : now (l .image) ≡ image = rw e at (o .image-held) in
+    let ss : now (l .stretches) ≡ list = rw e at (o .stretches-held) in
+    run-for calls l ys (opened-tells image list base l o) room ∙ rw (xs, ss, o .base-held, o .at-start) (enough image (pairs list) base calls (length image - 0) 0 (omega arith) (omega arith))
+
+pub refused-ends : (image list : List ℕ) (base : ℕ) (l : Listing) (ys : List ℕ) → Opened image list base l → (refusal image list ≡ 0 → ⊥) → stepFrom l ys ≡ (End 0, ys)
+unfolding heldOf
+refused-ends image list base l ys o f =
+    let n = ne-eqb (refusal image list) 0 f in
+    let xs : now (l .image) ≡ [] = rw n at (o .image-held) in
+    listed-end (now (l .image)) _ (l .base) (l .at) ys (no-step (now (l .image)) _ (l .at) (rw xs (omega arith))) ∙ rw (o .at-start)
