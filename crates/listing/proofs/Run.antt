@@ -44,50 +44,52 @@ pub moved-tells : (l : Listing) (r : Listed) → l .at ≤ nextPlace r → Tells
 moved-tells l r h c = λ k g. carried-on (now (l .stretches)) (l .next) (l .at) c k (omega arith)
 
 -- ---- a run
--- one call where there is a step, by what the calls behind it give
-one-call : (l : Listing) (ys : List ℕ) (calls : ℕ) → Tells l → 80 ≤ length ys → hasStep (now (l .image)) (pairs (now (l .stretches))) (l .at) ≡ true
-    → ((r : Listed) (zs : List ℕ) → 80 ≤ length zs → nextPlace r ≡ l .at + spanBytes (spanAt (now (l .image)) (pairs (now (l .stretches))) (l .at))
-    → run (movedOn l r) zs calls ≡ stepsFor (now (l .image)) (pairs (now (l .stretches))) (l .base) (l .at + spanBytes (spanAt (now (l .image)) (pairs (now (l .stretches))) (l .at))) calls)
-    → shown (stepFrom l ys .0) (stepFrom l ys .1) (run (movedOn l (stepFrom l ys .0)) (stepFrom l ys .1) calls)
-    ≡ stepOf (now (l .image)) (spanAt (now (l .image)) (pairs (now (l .stretches))) (l .at)) (l .base) (l .at)
-    ∷ stepsFor (now (l .image)) (pairs (now (l .stretches))) (l .base) (l .at + spanBytes (spanAt (now (l .image)) (pairs (now (l .stretches))) (l .at))) calls
-one-call l ys calls c room t ih = by-answer (spanLine image x p (l .at)) refl (span-whole image x p (l .at))
-  where
-    abbrev image : List ℕ
-    image = now (l .image)
+module _ (l : Listing) where
+  abbrev image : List ℕ
+  image = now (l .image)
 
-    abbrev ss : List Stretch
-    ss = pairs (now (l .stretches))
+  abbrev ss : List Stretch
+  ss = pairs (now (l .stretches))
 
-    abbrev x : Span
-    x = spanAt image ss (l .at)
+  abbrev x : Span
+  x = spanAt image ss (l .at)
 
-    abbrev p : ℕ
-    p = moved (l .base) (l .at)
+  -- the steps from this place on, and from the next
+  abbrev here : ℕ → List Step
+  here calls = stepsFor image ss (l .base) (l .at) calls
 
-    by-answer : (b : Answer) → spanLine image x p (l .at) ≡ b → Whole b
-        → shown (stepFrom l ys .0) (stepFrom l ys .1) (run (movedOn l (stepFrom l ys .0)) (stepFrom l ys .1) calls)
-        ≡ stepOf image x (l .base) (l .at) ∷ stepsFor image ss (l .base) (l .at + spanBytes x) calls
-    by-answer (refused k) e w =
-        let a = same-answer l ys c ∙ listed-refused image ss (l .base) (l .at) ys t k e w in
-        rw (a, e, ih (Refused k (l .at) (spanBytes x)) ys room refl)
-    by-answer (line bs) e w =
-        let zs = bs ++ drop (length bs) ys in
-        let a = same-answer l ys c ∙ listed-line image ss (l .base) (l .at) ys t bs e w room in
-        let n : 80 ≤ length zs = simp (length-append, length-drop) (omega arith) in
-        rw (a, e, take-at bs (drop (length bs) ys) (length bs) refl, ih (Line (l .at) (spanBytes x) (length bs)) zs n refl)
+  abbrev behind : ℕ → List Step
+  behind calls = stepsFor image ss (l .base) (l .at + spanBytes x) calls
+
+  -- what a call and those behind it show
+  abbrev called : List ℕ → ℕ → List Step
+  called ys calls = shown (stepFrom l ys .0) (stepFrom l ys .1) (run (movedOn l (stepFrom l ys .0)) (stepFrom l ys .1) calls)
+
+  -- one call where there is a step, by what the calls behind it show
+  one-call : (ys : List ℕ) (calls : ℕ) → Tells l → 80 ≤ length ys → hasStep image ss (l .at) ≡ true
+      → ((r : Listed) (zs : List ℕ) → 80 ≤ length zs → nextPlace r ≡ l .at + spanBytes x → run (movedOn l r) zs calls ≡ behind calls)
+      → called ys calls ≡ stepOf image x (l .base) (l .at) ∷ behind calls
+  one-call ys calls c room t ih = by-answer (spanLine image x (moved (l .base) (l .at)) (l .at)) refl (span-whole image x (moved (l .base) (l .at)) (l .at))
+    where
+      by-answer : (b : Answer) → spanLine image x (moved (l .base) (l .at)) (l .at) ≡ b → Whole b → called ys calls ≡ stepOf image x (l .base) (l .at) ∷ behind calls
+      by-answer (refused k) e w =
+          let a = same-answer l ys c ∙ listed-refused image ss (l .base) (l .at) ys t k e w in
+          rw (a, e, ih (Refused k (l .at) (spanBytes x)) ys room refl)
+      by-answer (line bs) e w =
+          let zs = bs ++ drop (length bs) ys in
+          let a = same-answer l ys c ∙ listed-line image ss (l .base) (l .at) ys t bs e w room in
+          let n : 80 ≤ length zs = simp (length-append, length-drop) (omega arith) in
+          rw (a, e, take-at bs (drop (length bs) ys) (length bs) refl, ih (Line (l .at) (spanBytes x) (length bs)) zs n refl)
 
 -- all calls
-run-for : (calls : ℕ) (l : Listing) (ys : List ℕ) → Tells l → 80 ≤ length ys → run l ys calls ≡ stepsFor (now (l .image)) (pairs (now (l .stretches))) (l .base) (l .at) calls
+run-for : (calls : ℕ) (l : Listing) (ys : List ℕ) → Tells l → 80 ≤ length ys → run l ys calls ≡ here l calls
 unfolding run stepsFor
 run-for zero l ys c room = refl
 run-for (suc calls) l ys c room =
-    let image = now (l .image) in
-    let ss = pairs (now (l .stretches)) in
     let ih = run-for calls in
-    by-test (hasStep image ss (l .at))
-    (λ t. rw t (one-call l ys calls c room t (λ r zs n e. ap (λ (k : ℕ). stepsFor image ss (l .base) k calls) e ∙∙ ih (movedOn l r) zs (moved-tells l r (omega (arith, e)) c) n)))
-    (λ t. rw (t, same-answer l ys c ∙ listed-end image ss (l .base) (l .at) ys t))
+    by-test (hasStep (image l) (ss l) (l .at))
+    (λ t. rw t (one-call l ys calls c room t (λ r zs n e. ih (movedOn l r) zs (moved-tells l r (omega (arith, e)) c) n ∙ ap (λ (k : ℕ). stepsFor (image l) (ss l) (l .base) k calls) e)))
+    (λ t. rw (t, same-answer l ys c ∙ listed-end (image l) (ss l) (l .base) (l .at) ys t))
 
 -- "Over a full listing": a listing that was opened, run into a buffer of 80 bytes or more in as many calls as there are bytes or more, shows just the
 -- steps of the image; and a "listing refused with 6 or 7 holds no bytes", so none
