@@ -14,17 +14,19 @@ use Rattle.arm7tdmi.specs.Signed.{moved}
 use Rattle.lines.specs.Answer.{Answer, refused, line}
 use Rattle.lines.proofs.Whole.{Whole}
 use Rattle.image.specs.Refusal.{refusal, refusalAt}
-use Rattle.image.specs.Stretches.{Stretch, pairs}
+use Rattle.image.specs.Stretches.{Stretch, left, pairs}
+use Rattle.image.proofs.Valid.{start}
 use Rattle.image.proofs.Stretches.{Carried, carried-start, carried-on}
 use Rattle.steps.specs.Steps.{Step, stepOf, spanAt, spanBytes, spanLine, hasStep, stepsFor, steps}
-use Rattle.steps.specs.Listed.{listed, listStep, listedBytes, nextPlace}
+use Rattle.steps.specs.Listed.{listed, listStep, listedOffset, nextPlace}
 use Rattle.steps.specs.declared.Listed.{Listed}
 use Rattle.steps.specs.declared.Listed.the-variants.{Line, Refused, End}
 use Rattle.steps.proofs.Steps.{enough, no-step}
 use Rattle.steps.specs.declared.Span.{Span}
-use Rattle.steps.proofs.Answers.{listed-end, listed-line, listed-refused, listed-same, span-whole}
+use Rattle.steps.proofs.Answers.{listed-end, listed-line, listed-offset, listed-refused, listed-same, span-whole}
+use Rattle.steps.proofs.Places.{next-fine}
 use Rattle.listing.specs.declared.Listing.{Listing}
-use Rattle.listing.specs.Listing.{heldOf, Opened, stepFrom, movedOn}
+use Rattle.listing.specs.Listing.{heldOf, Opened, stepFrom, movedOn, Stepped-is}
 use Rattle.listing.specs.Run.{run, shown}
 
 -- ---- the number of a pair that a listing carries
@@ -107,3 +109,43 @@ refused-ends image list base l ys o f =
     let n = ne-eqb (refusal image list) 0 f in
     let xs : now (l .image) ≡ [] = rw n at (o .image-held) in
     listed-end (now (l .image)) _ (l .base) (l .at) ys (no-step (now (l .image)) _ (l .at) (rw xs (omega arith))) ∙ rw (o .at-start)
+
+-- ---- a listing on its way
+-- it holds an image that is not refused, and stands at a place that is not
+pub record Stands (xs list : List ℕ) (base : ℕ) (l : Listing) : Type 0 where
+  pub image-is : now (l .image) ≡ xs
+  pub stretches-is : now (l .stretches) ≡ list
+  pub base-is : l .base ≡ base
+  pub fine : refusalAt xs list (l .at) ≡ 0
+  pub tells : Tells l
+
+pub opened-stands : (xs list : List ℕ) (base : ℕ) (l : Listing) → Opened xs list base l → refusal xs list ≡ 0 → Stands xs list base l
+unfolding heldOf
+opened-stands xs list base l o e =
+    record {
+      image-is = rw e at (o .image-held);
+      stretches-is = rw e at (o .stretches-held);
+      base-is = o .base-held;
+      fine = rw (o .at-start) (start xs list e);
+      tells = opened-tells xs list base l o;
+    }
+
+-- its step is the one step at that place, of the image with all its stretches
+pub as-anywhere : (xs list : List ℕ) (base : ℕ) (l : Listing) (ys : List ℕ) → Stands xs list base l → stepFrom l ys ≡ listStep xs list base (l .at) ys
+unfolding listStep
+as-anywhere xs list base l ys s = same-answer l ys (s .tells) ∙ rw (eq-eqb (refusalAt xs list (l .at)) 0 (s .fine), s .image-is, s .stretches-is, s .base-is)
+
+-- and behind it, it stands so again
+pub stands-on : (xs list : List ℕ) (base : ℕ) (l : Listing) (ys : List ℕ) (r : Listed) (zs : List ℕ) (l′ : Listing) → Stands xs list base l → Stepped-is l ys r zs l′ → Stands xs list base l′
+stands-on xs list base l ys r zs l′ s a =
+    let e = sym (as-anywhere xs list base l ys s) ∙ a .answer in
+    let f : refusalAt xs list (nextPlace r) ≡ 0 = rw e at (next-fine xs list base (l .at) ys (s .fine)) in
+    let o : listedOffset r ≡ l .at = rw (a .answer) at (listed-offset (now (l .image)) (left (now (l .stretches)) (l .next)) (l .base) (l .at) ys) in
+    rw (a .after)
+    (record {
+      image-is = s .image-is;
+      stretches-is = s .stretches-is;
+      base-is = s .base-is;
+      fine = f;
+      tells = moved-tells l r (omega (arith, o)) (s .tells);
+    })

@@ -10,7 +10,8 @@ ghost use Rattle.thumb_print.specs.Print.{thumbLine};
 ghost use Rattle.pairs.specs.Print.{pairLine};
 ghost use Rattle.pairs.specs.Read as Pair;
 ghost use Rattle.pairs.specs.Run.{pairingIndex, pairingNumber, unpaired};
-ghost use Rattle.modestsilk.specs.Numbers.{formOf};
+ghost use Rattle.steps.specs.Listed.{listStep};
+ghost use Rattle.modestsilk.specs.Numbers.{formOf, numbersOf};
 use arm::arm_format;
 use arm_print::print_arm;
 use arm_read::ArmRead;
@@ -21,6 +22,7 @@ use pairs::read::PairRead;
 use pairs::read::read_pair;
 use pairs::run::Pairing;
 use pairs::run::unpaired;
+use steps::list_step;
 use thumb::thumb_format;
 use thumb_print::print_thumb;
 use thumb_read::ThumbRead;
@@ -174,4 +176,26 @@ pub extern "C" fn silk_unpaired(halfwords: &[u16], index: &mut usize) -> u32
             0
         }
     }
+}
+
+// One step of the listing of an image at a place: its line into a buffer; offset, byte length and the line's length behind the pointers. The answer is the
+// refusal's number, or 0, which with byte length 0 is the end mark.
+#[no_mangle]
+pub extern "C" fn silk_list_step(
+    image: &[u8],
+    stretches: &[u8],
+    base: u32,
+    place: u32,
+    line: &mut [u8],
+    offset: &mut u32,
+    bytes: &mut u32,
+    length: &mut usize,
+) -> u32
+    ensures { λ r. ⌜ numbersOf (listStep (now (image .entry)) (now (stretches .entry)) base place (now (line .entry))) ≡ (r, now (offset .exit), now (bytes .exit), now (length .exit), now (line .exit)) ⌝ }
+{
+    let s = list_step(image, stretches, base, place as usize, line);
+    *offset = s.offset() as u32;
+    *bytes = s.bytes() as u32;
+    *length = s.length();
+    s.number()
 }

@@ -183,13 +183,13 @@ fn print_span(image: &[u8], x: Span, pc: u32, at: usize, line: &mut [u8]) -> Pri
 }
 
 // The step at a place, by the pairs from number next on.
-pub fn step_at<'a, 'l>(
-    image: &'a [u8],
-    stretches: &'a [u8],
+pub fn step_at(
+    image: &[u8],
+    stretches: &[u8],
     next: usize,
     base: u32,
     at: usize,
-    line: &'l mut [u8],
+    line: &mut [u8],
 ) -> Listed
     ensures { λ r. ⌜ listed (now (image .entry)) (left (now (stretches .entry)) next) base at (now (line .entry)) ≡ (r, now (line .exit)) ⌝ }
 {
@@ -202,13 +202,7 @@ pub fn step_at<'a, 'l>(
 }
 
 // One step of the listing of an image, at any place; 6, 7 or 8 where image, stretches or place are refused.
-pub fn list_step<'a, 'l>(
-    image: &'a [u8],
-    stretches: &'a [u8],
-    base: u32,
-    at: usize,
-    line: &'l mut [u8],
-) -> Listed
+pub fn list_step(image: &[u8], stretches: &[u8], base: u32, at: usize, line: &mut [u8]) -> Listed
     ensures { λ r. ⌜ listStep (now (image .entry)) (now (stretches .entry)) base at (now (line .entry)) ≡ (r, now (line .exit)) ⌝ }
 {
     let number = refusal_at(image, stretches, at);
