@@ -19,10 +19,29 @@
  * its partner (directly behind a first half, directly before a second), or 0 with
  * index 0 where all are paired.
  *
+ * silk_list_step answers one step of the listing of an image: 0 to 65536 bytes,
+ * little-endian, with base as the address of the first; stretches are the parts
+ * in Thumb, pairs of offset and length, 32 bits each, little-endian and sorted,
+ * and the rest is ARM. The sheet line of what stands at the place goes into the
+ * buffer; its offset, its byte length (4, in Thumb 2, or 4 for a call pair inside
+ * one stretch) and the line's length go through the pointers. A listing begins at
+ * place 0, and its next place is offset + bytes. The answer is
+ *   0   the line; with bytes 0 the end mark, its offset the place,
+ *   1, 2   that word is refused: bytes 4, length 0, and the listing goes on,
+ *   3   the buffer is shorter than the line: bytes 0, length 0, offset the place,
+ *   6   the image has more than 65536 bytes, or not a multiple of 4,
+ *   7   the stretches are not whole pairs, or a pair has length 0, an offset or a
+ *       length that is not a multiple of 4, an end past the image, or an offset
+ *       below the end of the pair before it,
+ *   8   the place is past the image's end, or odd in Thumb, or no multiple of 4
+ *       in ARM,
+ * with 6, 7 and 8 in this order before the others, and all three numbers 0.
+ *
  * What the pointers must be: line points to capacity bytes (a print) or length
- * bytes (a read), halfwords to count halfwords, and may be NULL where that number
- * is 0; length, word, first, second and index point to memory for one value each,
- * and are never NULL. What a call writes to must not overlap anything else that
+ * bytes (a read), halfwords to count halfwords, image and stretches to as many
+ * bytes as their lengths say, and may be NULL where that number is 0; length, word,
+ * first, second, index, offset and bytes point to memory for one value each, and
+ * are never NULL. What a call writes to must not overlap anything else that
  * it is given. The functions keep no state, so any thread may call them at any
  * time.
  *
@@ -93,6 +112,9 @@ uint32_t silk_read_thumb(uint32_t form, uint32_t address, const uint8_t *line, s
 uint32_t silk_print_pair(uint16_t first, uint16_t second, uint32_t address, uint8_t *line, size_t capacity, size_t *length);
 uint32_t silk_read_pair(uint32_t address, const uint8_t *line, size_t length, uint16_t *first, uint16_t *second);
 uint32_t silk_unpaired(const uint16_t *halfwords, size_t count, size_t *index);
+
+uint32_t silk_list_step(const uint8_t *image, size_t image_length, const uint8_t *stretches, size_t stretches_length, uint32_t base, uint32_t place,
+                        uint8_t *line, size_t capacity, uint32_t *offset, uint32_t *bytes, size_t *length);
 
 #ifdef __cplusplus
 }
