@@ -4,7 +4,7 @@ ghost use Prim.Native.Nat.{_+_, _*_, _/_, _^_, _<_, _≤_};
 ghost use lib.ListN.{length};
 ghost use Rattle.image.specs.Bytes.{half, word};
 ghost use Rattle.image.specs.Stretches.{pairAt, pairs, end, left, firstLeft, setAt};
-ghost use Rattle.image.specs.Refusal.{uneven, unit, wrongPair, wrongPairs, refusal, refusalAt};
+ghost use Rattle.image.specs.Refusal.{uneven, unit, wrongImage, wrongPair, wrongPairs, wrongList, refusal, refusalAt};
 
 // The set at a place; for Thumb, with the end of its stretch.
 pub enum Set {
@@ -155,21 +155,36 @@ fn wrong_pairs(size: usize, stretches: &[u8]) -> bool
     false
 }
 
+// Whether an image is refused.
+fn wrong_image(image: &[u8]) -> bool
+    ensures { λ r. ⌜ r ≡ wrongImage (now (image .entry)) ⌝ }
+{
+    if 65536 < image.len() {
+        return true;
+    }
+    image.len() % 4 != 0
+}
+
+// Whether the list of its stretches is.
+fn wrong_list(image: &[u8], stretches: &[u8]) -> bool
+    ensures { λ r. ⌜ r ≡ wrongList (now (image .entry)) (now (stretches .entry)) ⌝ }
+{
+    if stretches.len() % 8 != 0 {
+        return true;
+    }
+    wrong_pairs(image.len(), stretches)
+}
+
 // 6 or 7 where an image or its stretches are refused, or 0.
 pub fn refusal(image: &[u8], stretches: &[u8]) -> u32
     ensures { λ r. ⌜ r ≡ refusal (now (image .entry)) (now (stretches .entry)) ⌝ }
 {
-    let size = image.len();
-    if 65536 < size {
+    let no_image = wrong_image(image);
+    let no_list = wrong_list(image, stretches);
+    if no_image {
         return 6;
     }
-    if size % 4 != 0 {
-        return 6;
-    }
-    if stretches.len() % 8 != 0 {
-        return 7;
-    }
-    if wrong_pairs(size, stretches) {
+    if no_list {
         return 7;
     }
     0

@@ -60,10 +60,10 @@ impl Listed {
         ensures { λ r. ⌜ r ≡ listedOffset self ⌝ }
     {
         match self {
-            Listed::Line(at, _, _) => at,
-            Listed::Refused(_, at, _) => at,
-            Listed::NoRoom(at) => at,
-            Listed::End(at) => at,
+            Listed::Line(offset, _, _) => offset,
+            Listed::Refused(_, offset, _) => offset,
+            Listed::NoRoom(offset) => offset,
+            Listed::End(offset) => offset,
             Listed::NoListing(_) => 0,
         }
     }
