@@ -1,6 +1,9 @@
 //! Measures the library and the published Rust side by side, over the same
-//! words in one run, and prints tables. `bench OURS RUST` also measures the two
-//! row programs at these paths, if both are there.
+//! words in one run, and prints tables. `bench OURS RUST LISTING` also measures
+//! the two row programs and the program that lists an image, if they are at
+//! these paths.
+
+mod listing;
 
 use std::env;
 use std::fmt::{Display, Write as _};
@@ -255,6 +258,20 @@ fn row_programs(set: &str, text: String, ours: &str, rust: &str) -> io::Result<(
     fs::remove_file(&rows)
 }
 
+/// Prints the table of the row programs.
+fn row_table(arm: &[(u32, u32)], thumb: &[(u16, u32)], ours: &str, rust: &str) -> io::Result<()> {
+    let arm = arm
+        .iter()
+        .map(|(word, address)| format!("a {address:08x} {word:08x}\n"));
+    let thumb = thumb
+        .iter()
+        .map(|(word, address)| format!("t {address:08x} {word:04x}\n"));
+    println!("\n| row program | ours, million rows a second | the Rust | ours / the Rust |");
+    println!("|---|---|---|---|");
+    row_programs("ARM, random", arm.collect(), ours, rust)?;
+    row_programs("Thumb, random", thumb.collect(), ours, rust)
+}
+
 fn main() -> io::Result<()> {
     let arm = arm_words();
     let thumb = thumb_words();
@@ -295,21 +312,13 @@ fn main() -> io::Result<()> {
     run_of_pairs(&calls);
 
     let programs: Vec<String> = env::args().skip(1).collect();
-    let [ours, rust] = &programs[..] else {
+    let [ours, rust, listing] = &programs[..] else {
         return Ok(());
     };
-    if !Path::new(ours).exists() || !Path::new(rust).exists() {
-        println!("\nThe row programs were not measured: {ours} or {rust} is not there.");
+    if let Some(missing) = programs.iter().find(|program| !Path::new(program).exists()) {
+        println!("\nThe programs were not measured: {missing} is not there.");
         return Ok(());
     }
-    let arm = arm[..ROWS]
-        .iter()
-        .map(|(word, address)| format!("a {address:08x} {word:08x}\n"));
-    let thumb = mixed[..ROWS]
-        .iter()
-        .map(|(word, address)| format!("t {address:08x} {word:04x}\n"));
-    println!("\n| row program | ours, million rows a second | the Rust | ours / the Rust |");
-    println!("|---|---|---|---|");
-    row_programs("ARM, random", arm.collect(), ours, rust)?;
-    row_programs("Thumb, random", thumb.collect(), ours, rust)
+    row_table(&arm[..ROWS], &mixed[..ROWS], ours, rust)?;
+    listing::table(listing)
 }

@@ -51,6 +51,19 @@ mod c {
             second: *mut u16,
         ) -> u32;
         pub fn silk_unpaired(halfwords: *const u16, count: usize, index: *mut usize) -> u32;
+        pub fn silk_list_step(
+            image: *const u8,
+            image_length: usize,
+            stretches: *const u8,
+            stretches_length: usize,
+            base: u32,
+            place: u32,
+            line: *mut u8,
+            capacity: usize,
+            offset: *mut u32,
+            bytes: *mut u32,
+            length: *mut usize,
+        ) -> u32;
     }
 }
 
@@ -122,6 +135,44 @@ pub fn unpaired(run: &[u16]) -> (u32, usize) {
     // SAFETY: the run and the index are lent for the call alone.
     let number = unsafe { c::silk_unpaired(run.as_ptr(), run.len(), &mut index) };
     (number, index)
+}
+
+/// What a step of a listing answers.
+#[derive(Clone, Copy)]
+pub struct Step {
+    pub number: u32,
+    pub offset: u32,
+    pub bytes: u32,
+    pub length: usize,
+}
+
+/// Lends the image, its stretches and the buffer; gives the step at a place.
+/// Inlined, as a measure should not time its many arguments twice.
+#[inline]
+pub fn list_step(image: &[u8], stretches: &[u8], base: u32, place: u32, line: &mut [u8]) -> Step {
+    let (mut offset, mut bytes, mut length) = (u32::MAX, u32::MAX, usize::MAX);
+    // SAFETY: all are lent for the call alone.
+    let number = unsafe {
+        c::silk_list_step(
+            image.as_ptr(),
+            image.len(),
+            stretches.as_ptr(),
+            stretches.len(),
+            base,
+            place,
+            line.as_mut_ptr(),
+            line.len(),
+            &mut offset,
+            &mut bytes,
+            &mut length,
+        )
+    };
+    Step {
+        number,
+        offset,
+        bytes,
+        length,
+    }
 }
 
 /// splitmix64: the random number at a place of its sequence.
