@@ -17,6 +17,9 @@ const IMAGE: usize = 1 << 16;
 /// Listings of the image that are timed at once.
 const LISTINGS: u32 = 500;
 
+/// Asks the program for the prints alone.
+const ALONE: u32 = 1 << 31;
+
 /// Bytes of the longest line.
 const LINE: usize = 80;
 
@@ -117,11 +120,21 @@ fn steps_of(image: &[u8], stretches: &[Stretch]) -> Vec<(Span, u32)> {
     steps
 }
 
-/// A file with the input for so many listings.
-fn input(listings: u32, image: &[u8], list: &[u8]) -> io::Result<PathBuf> {
-    let path = env::current_exe()?.with_extension(format!("{listings}"));
-    let numbers = [listings, image.len() as u32].map(u32::to_le_bytes);
-    fs::write(&path, [numbers.as_flattened(), image, list].concat())?;
+/// A letter for what a step prints, as the program takes it.
+fn letter(span: Span) -> u8 {
+    match span {
+        Span::Word(_) => b'w',
+        Span::Half(_) => b'h',
+        Span::Pair(_) => b'p',
+    }
+}
+
+/// A file with the input for so many passes over an image: listings by its
+/// stretches, or the prints of its spans alone.
+fn input(passes: u32, image: &[u8], rest: &[u8]) -> io::Result<PathBuf> {
+    let path = env::current_exe()?.with_extension(format!("{passes}"));
+    let numbers = [passes, image.len() as u32].map(u32::to_le_bytes);
+    fs::write(&path, [numbers.as_flattened(), image, rest].concat())?;
     Ok(path)
 }
 
@@ -134,47 +147,58 @@ fn run(program: &str, input: &Path, steps: usize) {
     assert_eq!(output.stdout, format!("{steps}\n").into_bytes());
 }
 
-/// The least nanoseconds for a step of the program's listing, without its
-/// start, and for one of the prints alone.
-fn both(program: &str, image: &[u8], list: &[u8], steps: &[(Span, u32)]) -> io::Result<(f64, f64)> {
+/// The least nanoseconds for a step of the program's listing, and of its prints
+/// alone, each without the program's start.
+fn by_program(
+    program: &str,
+    image: &[u8],
+    list: &[u8],
+    steps: &[(Span, u32)],
+) -> io::Result<(f64, f64)> {
+    let letters: Vec<u8> = steps.iter().map(|step| letter(step.0)).collect();
     let many = input(LISTINGS, image, list)?;
     let one = input(1, image, list)?;
+    let many_alone = input(ALONE + LISTINGS, image, &letters)?;
+    let one_alone = input(ALONE + 1, image, &letters)?;
+    let time = |path: &Path| run(program, path, steps.len());
+    let (mut least, mut start) = (Least::NONE, Least::NONE);
+    for _ in 0..PASSES {
+        least.time(|| time(&many), || time(&many_alone));
+        start.time(|| time(&one), || time(&one_alone));
+    }
+    for path in [many, one, many_alone, one_alone] {
+        fs::remove_file(path)?;
+    }
+    let each = 1e9 / (f64::from(LISTINGS - 1) * steps.len() as f64);
+    Ok((each * (least.0 - start.0), each * (least.1 - start.1)))
+}
+
+/// The least nanoseconds for a step of a listing by `silk_list_step`, and of
+/// the library's prints alone.
+fn by_library(image: &[u8], stretches: &[u8], steps: &[(Span, u32)]) -> (f64, f64) {
+    let listings = LISTINGS as usize / (stretches.len() / 8 + 1) + 1;
     let mut line = [0; LINE];
     let mut prints = || {
         for &(span, address) in steps {
             black_box(print(span, address, &mut line));
         }
     };
-    let (mut least, mut start) = (Least::NONE, Least::NONE);
-    for _ in 0..PASSES {
-        least.time(
-            || run(program, &many, steps.len()),
-            || (0..LISTINGS).for_each(|_| prints()),
-        );
-        start.time(|| run(program, &one, steps.len()), &mut prints);
-    }
-    fs::remove_file(&many)?;
-    fs::remove_file(&one)?;
-    let each = 1e9 / (f64::from(LISTINGS - 1) * steps.len() as f64);
-    Ok((each * (least.0 - start.0), each * (least.1 - start.1)))
-}
-
-/// The least nanoseconds for a step of a listing by `silk_list_step`.
-fn from_c(image: &[u8], stretches: &[u8], steps: usize) -> f64 {
-    let listings = LISTINGS as usize / (stretches.len() / 8 + 1) + 1;
     let mut least = Least::NONE;
     for _ in 0..PASSES {
         let listing = |_| list(image, stretches, |step, _| _ = black_box(step));
-        least.time(|| (0..listings).for_each(listing), || ());
+        least.time(
+            || (0..listings).for_each(listing),
+            || (0..listings).for_each(|_| prints()),
+        );
     }
-    1e9 * least.0 / (listings * steps) as f64
+    let each = 1e9 / (listings * steps.len()) as f64;
+    (each * least.0, each * least.1)
 }
 
-/// Prints the table of the listings by the program at this path.
+/// Prints the table of listings, by the program at this path and by the library.
 pub fn table(program: &str) -> io::Result<()> {
     println!(
-        "\n| stretches | steps | listing, ns a step | prints alone, ns | listing / prints | \
-         by silk_list_step, ns |"
+        "\n| listing | stretches | steps | listing, ns a step | prints alone, ns | listing / prints |"
     );
     println!("|---|---|---|---|---|---|");
     for count in [0, 1, 100, 8192] {
@@ -182,13 +206,15 @@ pub fn table(program: &str) -> io::Result<()> {
         let image = random_image(&stretches);
         let list = list_of(&stretches);
         let steps = steps_of(&image, &stretches);
-        let (listing, prints) = both(program, &image, &list, &steps)?;
-        println!(
-            "| {count} | {} | {listing:.1} | {prints:.1} | {:.2} | {:.1} |",
-            steps.len(),
-            listing / prints,
-            from_c(&image, &list, steps.len())
-        );
+        let row = |name: &str, (listing, prints): (f64, f64)| {
+            let ratio = listing / prints;
+            println!(
+                "| {name} | {count} | {} | {listing:.1} | {prints:.1} | {ratio:.2} |",
+                steps.len()
+            );
+        };
+        row("step_on", by_program(program, &image, &list, &steps)?);
+        row("silk_list_step", by_library(&image, &list, &steps));
     }
     Ok(())
 }

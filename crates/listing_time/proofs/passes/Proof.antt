@@ -4,10 +4,10 @@ use Rattle.listing_time.proofs.passes.Statement.{statement}
 use Rattle.listing_time.proofs.passes.Tie as tie
 
 abbrev Inv-loop : tie.InvT-loop
-Inv-loop n image stretches line₀ steps₀ left₀ line steps left = Unit {0}
+Inv-loop n alone image list line₀ steps₀ left₀ line steps left = Unit {0}
 
 abbrev μ-loop : tie.MeasureT-loop
-μ-loop n image stretches line₀ steps₀ left₀ line steps left = left
+μ-loop n alone image list line₀ steps₀ left₀ line steps left = left
 
 pub passes-spec : {M : Type 1} → statement M
-passes-spec = tie.close (tie.spec Inv-loop μ-loop (λ c. search needs) (λ c κs. search needs) (λ c. search needs) (λ c. search needs) (λ c. search needs) (λ c. search needs))
+passes-spec = tie.close (tie.spec Inv-loop μ-loop (λ c. search needs) (λ c κs. search needs) (λ c κs. search needs) (λ c. search needs) (λ c. search needs) (λ c. search needs) (λ c. search needs))
