@@ -1,12 +1,12 @@
 -- The steps of a listing that holds its place: they are those of the image, whatever number of a pair it carries. Assumes nothing.
 use mathlib.Core.Path.{_≡_, refl, ap, sym, _∙_}
-use mathlib.Core.Bool.{true, false, cond}
+use mathlib.Core.Bool.{true}
 use mathlib.Core.List.{List, [], _∷_, _++_}
-use Prim.Native.Nat.{ℕ, zero, suc, _+_, _-_, _<_, _≤_}
+use Prim.Native.Nat.{ℕ, zero, suc, _+_, _-_, _≤_}
+use native.Mathlib.Nat.{add-zero}
 use native.Mathlib.Omega.{arith}
 use borrow.Author.Tests.{eq-eqb, ne-eqb}
 use denote.Ref.{now}
-use lib.Dec.{eqb}
 use lib.ListN.{length, drop, length-append, length-drop}
 use lib.Seq.{take-at}
 use Rattle.common.proofs.Tests.{by-test}
@@ -149,3 +149,9 @@ stands-on xs list base l ys r zs l′ s a =
       fine = f;
       tells = moved-tells l r (omega (arith, o)) (s .tells);
     })
+
+-- "At the image's end the answer is an end mark", again and again, whatever the buffer: the listing stays there
+pub end-mark : (xs list : List ℕ) (base : ℕ) (l : Listing) (ys : List ℕ) → Stands xs list base l → l .at ≡ length xs → (stepFrom l ys ≡ (End (length xs), ys)) × (movedOn l (End (length xs)) .at ≡ length xs)
+end-mark xs list base l ys s e =
+    let h : length (image l) ≤ l .at = rw (s .image-is, e) (omega arith) in
+    (same-answer l ys (s .tells) ∙ listed-end (image l) (ss l) (l .base) (l .at) ys (no-step (image l) (ss l) (l .at) h) ∙ rw e, add-zero (length xs))

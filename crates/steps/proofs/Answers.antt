@@ -1,16 +1,16 @@
 -- What a step answers: its offset, how far it moves on, and which refusals there are. Assumes nothing.
-use mathlib.Core.Path.{_≡_, refl, ap, sym, _∙_}
+use mathlib.Core.Path.{_≡_, refl}
 use mathlib.Core.Bool.{true, false}
 use mathlib.Core.List.{List, _++_}
-use Prim.Native.Nat.{ℕ, _+_, _-_, _≤_, _<_, _^_}
+use Prim.Native.Nat.{ℕ, _+_, _-_, _≤_}
 use native.Mathlib.Omega.{arith}
-use borrow.Author.Tests.{eq-eqb, ne-eqb, lt-leb}
+use borrow.Author.Tests.{ne-eqb}
 use lib.Dec.{eqb, leb}
 use lib.ListN.{length, drop}
-use Rattle.common.proofs.Tests.{and-left, and-right, by-test}
+use Rattle.common.proofs.Tests.{and-right, by-test}
 use Rattle.arm7tdmi.specs.Signed.{moved}
 use Rattle.arm7tdmi.specs.declared.Form.the-variants.{Sheet}
-use Rattle.lines.specs.Answer.{Answer, refused, line, printed}
+use Rattle.lines.specs.Answer.{refused, line, printed}
 use Rattle.lines.specs.declared.Printed.{Printed}
 use Rattle.lines.proofs.Whole.{Whole, with-room, print-kept}
 use Rattle.arm_print.proofs.Whole.{arm-whole, arm-refusals}
@@ -25,11 +25,10 @@ use Rattle.image.specs.Stretches.{Stretch, left, firstLeft, pairs, setAt}
 use Rattle.image.specs.declared.Set.{Set}
 use Rattle.image.specs.declared.Set.the-variants as Set
 use Rattle.image.proofs.Stretches.{left-same}
-use Rattle.steps.specs.Steps.{callPair, spanIn, spanAt, spanBytes, spanLine, hasStep, stepOf}
-use Rattle.steps.specs.Listed.{listedOffset, listedBytes, told, answered, listed, listStep}
+use Rattle.steps.specs.Steps.{callPair, spanIn, spanAt, spanBytes, spanLine, hasStep}
+use Rattle.steps.specs.Listed.{listedOffset, listedBytes, told, listed, listStep}
 use Rattle.steps.specs.declared.Span.{Span}
 use Rattle.steps.specs.declared.Span.the-variants.{Word, Half, Pair}
-use Rattle.steps.specs.declared.Listed.{Listed}
 use Rattle.steps.specs.declared.Listed.the-variants.{Line, Refused, End}
 use Rattle.steps.proofs.Steps.{step-inside}
 
