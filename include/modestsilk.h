@@ -36,7 +36,7 @@
  *   8   the place is past the image's end, or odd in Thumb, or no multiple of 4
  *       in ARM,
  * with 6, 7 and 8 in this order before the others, and all three numbers 0. Each
- * call looks at all stretches: some nanoseconds for each.
+ * call looks at all stretches.
  *
  * What the pointers must be: line points to capacity bytes (a print) or length
  * bytes (a read), halfwords to count halfwords, image and stretches to as many
