@@ -36,10 +36,22 @@
  *   8   the place is past the image's end, or odd in Thumb, or no multiple of 4
  *       in ARM,
  * with 6, 7 and 8 in this order before the others, and all three numbers 0. Each
- * call looks at all stretches.
+ * call looks at all stretches. A listing is put aside as its place and resumed
+ * there, over the image as it then is: a second half of a call at that place
+ * prints alone, though a listing from the start would show the pair.
+ *
+ * silk_patch overwrites one word of an image, the 4 bytes at an offset or in Thumb
+ * the 2, with the lowest word that prints the sheet line at base + offset, as
+ * silk_read_arm or silk_read_thumb gives it. The answer is 0, or
+ *   6, 7   as above,
+ *   8   the offset is no place for a word: as above, or it is the image's end,
+ *   4   no word of the set at that place prints the line there,
+ * in this order, and then the image keeps its bytes. A call pair takes two
+ * patches, as its line is no word's. A word that is not the lowest of its line
+ * cannot be patched in: F800, which prints as F000 does.
  *
  * What the pointers must be: line points to capacity bytes (a print) or length
- * bytes (a read), halfwords to count halfwords, image and stretches to as many
+ * bytes (a read or a patch), halfwords to count halfwords, image and stretches to as many
  * bytes as their lengths say, and may be NULL where that number is 0; length, word,
  * first, second, index, offset and bytes point to memory for one value each, and
  * are never NULL. What a call writes to must not overlap anything else that
@@ -116,6 +128,9 @@ uint32_t silk_unpaired(const uint16_t *halfwords, size_t count, size_t *index);
 
 uint32_t silk_list_step(const uint8_t *image, size_t image_length, const uint8_t *stretches, size_t stretches_length, uint32_t base, uint32_t place,
                         uint8_t *line, size_t capacity, uint32_t *offset, uint32_t *bytes, size_t *length);
+
+uint32_t silk_patch(uint8_t *image, size_t image_length, const uint8_t *stretches, size_t stretches_length, uint32_t base, uint32_t offset,
+                    const uint8_t *line, size_t length);
 
 #ifdef __cplusplus
 }

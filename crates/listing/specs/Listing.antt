@@ -1,28 +1,35 @@
--- A listing that holds the image and its place: how it is opened, and what a step of it is. Assumes nothing.
+-- A listing that holds the image and its place: how it is opened and resumed, and what a step of it is. Assumes nothing.
 use mathlib.Core.Path.{_≡_}
 use mathlib.Core.Bool.{cond}
 use mathlib.Core.List.{List, []}
 use Prim.Native.Nat.{ℕ}
 use lib.Dec.{eqb}
 use denote.Ref.{now}
-use Rattle.image.specs.Refusal.{refusal}
+use Rattle.image.specs.Refusal.{refusalAt}
 use Rattle.image.specs.Stretches.{firstLeft, left}
 use Rattle.steps.specs.Listed.{listed, nextPlace}
 use Rattle.steps.specs.declared.Listed.{Listed}
 use Rattle.listing.specs.declared.Listing.{Listing}
 
--- "a listing refused with 6 or 7 holds no bytes": what it holds of a list of bytes
+-- "A resumption refused with 6, 7 or 8 holds no bytes and stands at offset 0": what it holds of a list of bytes, and where it stands
 unfoldable pub heldOf : List ℕ → ℕ → List ℕ
 heldOf bytes number = cond (eqb number 0) bytes []
 
--- a listing of an image and its stretches from the start
-pub record Opened (image list : List ℕ) (base : ℕ) (l : Listing) : Type 0 where
-  pub image-held : now (l .image) ≡ heldOf image (refusal image list)
-  pub stretches-held : now (l .stretches) ≡ heldOf list (refusal image list)
+unfoldable pub placeOf : ℕ → ℕ → ℕ
+placeOf offset number = cond (eqb number 0) offset 0
+
+-- "put aside as its offset and resumed over the altered image": a listing of an image and its stretches that is resumed at an offset
+pub record Resumed (image list : List ℕ) (base offset : ℕ) (l : Listing) : Type 0 where
+  pub image-held : now (l .image) ≡ heldOf image (refusalAt image list offset)
+  pub stretches-held : now (l .stretches) ≡ heldOf list (refusalAt image list offset)
   pub base-held : l .base ≡ base
-  pub number-held : l .number ≡ refusal image list
-  pub at-start : l .at ≡ 0
+  pub number-held : l .number ≡ refusalAt image list offset
+  pub place-held : l .at ≡ placeOf offset (refusalAt image list offset)
   pub next-first : l .next ≡ 0
+
+-- one from the start, where no 8 is given (`start-same`)
+abbrev pub Opened : List ℕ → List ℕ → ℕ → Listing → Type 0
+Opened image list base l = Resumed image list base 0 l
 
 -- the answer of a step of a listing l into a buffer that holds ys, and what the buffer holds then
 abbrev pub stepFrom : Listing → List ℕ → Listed × List ℕ

@@ -1,16 +1,16 @@
 // The listing of an image, step by step: a struct that holds the lent image and the place that the listing has come to.
 ghost use mathlib.Core.Path.{_≡_};
-ghost use Rattle.image.specs.Refusal.{refusal};
+ghost use Rattle.image.specs.Refusal.{refusalAt};
 ghost use Rattle.image.specs.Stretches.{firstLeft, left};
 ghost use Rattle.steps.specs.Listed.{listed, nextPlace};
-ghost use Rattle.listing.specs.Listing.{heldOf, Opened, Stepped-is};
+ghost use Rattle.listing.specs.Listing.{heldOf, placeOf, Opened, Resumed, Stepped-is};
 use image::first_left;
-use image::refusal;
+use image::refusal_at;
 use steps::Listed;
 use steps::step_at;
 
-// An image and its Thumb stretches, lent, with the address of the image's first byte; 6 or 7 where they were refused, or 0; the place; and the number of
-// the first pair that may still tell of it.
+// An image and its Thumb stretches, lent, with the address of the image's first byte; 6, 7 or 8 where they or the offset were refused, or 0; the place; and
+// the number of the first pair that may still tell of it.
 pub struct Listing<'a> {
     pub image: &'a [u8],
     pub stretches: &'a [u8],
@@ -27,14 +27,14 @@ pub struct Stepped {
     pub next: usize,
 }
 
-// 6 or 7, or 0.
-fn opening<'a>(image: &'a [u8], stretches: &'a [u8]) -> u32
-    ensures { λ r. ⌜ r ≡ refusal (now (image .entry)) (now (stretches .entry)) ⌝ }
+// 6, 7 or 8, or 0.
+fn resuming<'a>(image: &'a [u8], stretches: &'a [u8], offset: usize) -> u32
+    ensures { λ r. ⌜ r ≡ refusalAt (now (image .entry)) (now (stretches .entry)) offset ⌝ }
 {
-    refusal(image, stretches)
+    refusal_at(image, stretches, offset)
 }
 
-// All bytes, or none of them where the opening is refused.
+// All bytes, or none of them under a refusal.
 fn held<'a>(s: &'a [u8], number: u32) -> &'a [u8]
     ensures { λ r. ⌜ now r ≡ heldOf (now (s .entry)) number ⌝ }
 {
@@ -42,6 +42,16 @@ fn held<'a>(s: &'a [u8], number: u32) -> &'a [u8]
         return s;
     }
     &s[..0]
+}
+
+// The offset, or 0 under a refusal.
+fn place(offset: usize, number: u32) -> usize
+    ensures { λ r. ⌜ r ≡ placeOf offset number ⌝ }
+{
+    if number != 0 {
+        return 0;
+    }
+    offset
 }
 
 // A step at a place, by the pairs from number next on.
@@ -64,24 +74,32 @@ pub fn step_on<'a, 'l>(
     }
 }
 
-// A listing of an image from its start.
-pub fn open<'a>(image: &'a [u8], stretches: &'a [u8], base: u32) -> Listing<'a>
-    ensures { λ r. ⌜ Opened (now (image .entry)) (now (stretches .entry)) base r ⌝ }
+// A listing of an image, resumed at an offset.
+pub fn resume<'a>(image: &'a [u8], stretches: &'a [u8], base: u32, offset: usize) -> Listing<'a>
+    ensures { λ r. ⌜ Resumed (now (image .entry)) (now (stretches .entry)) base offset r ⌝ }
 {
-    let number = opening(image, stretches);
+    let number = resuming(image, stretches, offset);
     let xs = held(image, number);
     let ss = held(stretches, number);
+    let at = place(offset, number);
     Listing {
         image: xs,
         stretches: ss,
         base,
         number,
-        at: 0,
+        at,
         next: 0,
     }
 }
 
-// The place that a listing has come to.
+// A listing of an image from its start.
+pub fn open<'a>(image: &'a [u8], stretches: &'a [u8], base: u32) -> Listing<'a>
+    ensures { λ r. ⌜ Opened (now (image .entry)) (now (stretches .entry)) base r ⌝ }
+{
+    resume(image, stretches, base, 0)
+}
+
+// The place that a listing has come to: the offset that it is put aside as.
 pub fn offset<'a>(l: Listing<'a>) -> usize
     ensures { λ r. ⌜ r ≡ l .entry .at ⌝ }
 {

@@ -11,6 +11,7 @@ ghost use Rattle.pairs.specs.Print.{pairLine};
 ghost use Rattle.pairs.specs.Read as Pair;
 ghost use Rattle.pairs.specs.Run.{pairingIndex, pairingNumber, unpaired};
 ghost use Rattle.steps.specs.Listed.{listStep};
+ghost use Rattle.patch.specs.Patch.{patched};
 ghost use Rattle.modestsilk.specs.Numbers.{formOf, numbersOf};
 use arm::arm_format;
 use arm_print::print_arm;
@@ -22,6 +23,7 @@ use pairs::read::PairRead;
 use pairs::read::read_pair;
 use pairs::run::Pairing;
 use pairs::run::unpaired;
+use patch::patch;
 use steps::list_step;
 use thumb::thumb_format;
 use thumb_print::print_thumb;
@@ -198,4 +200,18 @@ pub extern "C" fn silk_list_step(
     *bytes = s.bytes() as u32;
     *length = s.length();
     s.number()
+}
+
+// Patches the word at an offset of an image by its sheet line; the answer is 0, or 6, 7, 8 or 4 and the image keeps its bytes.
+#[no_mangle]
+pub extern "C" fn silk_patch(
+    image: &mut [u8],
+    stretches: &[u8],
+    base: u32,
+    offset: u32,
+    line: &[u8],
+) -> u32
+    ensures { λ r. ⌜ patched (now (image .entry)) (now (stretches .entry)) base offset (now (line .entry)) ≡ (r, now (image .exit)) ⌝ }
+{
+    patch(image, stretches, base, offset as usize, line)
 }

@@ -1,13 +1,16 @@
 -- The listing of an image: its steps follow one another from the place to the image's end, and it ends. Assumes nothing.
 use mathlib.Core.Path.{_≡_, refl, ap, sym, _∙_}
-use mathlib.Core.Bool.{true, false, true≢false}
-use mathlib.Core.List.{List, [], _∷_}
+use mathlib.Core.Bool.{true, false, true≢false, and-false}
+use mathlib.Core.List.{List, [], _∷_, _++_}
 use Prim.Native.Nat.{ℕ, zero, suc, _+_, _*_, _-_, _%_, _<_, _≤_}
 use native.Mathlib.Omega.{arith}
 use borrow.Author.Tests.{le-leb, lt-leb, leb-true, ltb-false, ltb-true}
-use lib.Dec.{ltb}
+use lib.Dec.{leb, ltb}
 use lib.ListN.{length}
 use Rattle.common.proofs.Tests.{by-test}
+use Rattle.thumb.specs.Pair.{isFirstHalf, isPair, isSecondHalf}
+use Rattle.pairs.proofs.Halves.{not-both}
+use Rattle.image.specs.Bytes.{half}
 use Rattle.image.specs.Stretches.{Stretch, pairs, setAt}
 use Rattle.image.specs.Refusal.{unit, refusal, refusalAt}
 use Rattle.image.specs.declared.Set.{Set}
@@ -67,6 +70,28 @@ module _ (image list : List ℕ) (base : ℕ) where
       let l = step-inside image (pairs list) at t in
       enough image (pairs list) base (length image - at) (suc (length image - at)) at (omega arith) (omega arith)
       ∙ rw t (ap (λ (z : List Step). stepOf image (spanAt image (pairs list) at) base at ∷ z) (enough image (pairs list) base (length image - at) (length image - (at + n)) (at + n) (omega (arith, b, l)) (omega arith)))
+
+  -- the image not altered, a listing put aside at any step's offset and resumed there gives exactly the steps that it would have given
+  pub resumed : (from : ℕ) (given : List Step) (s : Step) (rest : List Step) → steps image list base from ≡ given ++ s ∷ rest → steps image list base (s .offset) ≡ s ∷ rest
+  resumed from [] s rest e =
+      by-test (hasStep image (pairs list) from)
+      (λ t. let n = steps-next from t in let q : stepOf image (spanAt image (pairs list) from) base from ≡ s = cc in rw (ap (λ (x : Step). x .offset) q) at e)
+      (λ t. let n = steps-end from t in let z : _≡_ {A = ℕ} 0 1 = cc in absurd (omega arith))
+  resumed from (g ∷ given) s rest e =
+      let next = from + spanBytes (spanAt image (pairs list) from) in
+      let ih = resumed next given s rest in
+      by-test (hasStep image (pairs list) from)
+      (λ t. let n = steps-next from t in let q : steps image list base next ≡ given ++ s ∷ rest = cc in ih q)
+      (λ t. let n = steps-end from t in let z : _≡_ {A = ℕ} 0 1 = cc in absurd (omega arith))
+
+-- "a second call half alone at the offset prints alone": no pair begins with it
+pub second-alone : (image : List ℕ) (e at : ℕ) → isSecondHalf (half image at) ≡ true → spanIn image (Thumb e) at ≡ Half
+unfolding spanIn callPair isPair
+second-alone image e at s =
+    let h = half image at in
+    by-test (isFirstHalf h)
+    (λ t. absurd (true≢false (sym s ∙ not-both h t)))
+    (λ t. rw (t, and-false (leb (at + 4) e)))
 
 -- ---- the steps of an image that is not refused, from a place that is not
 module _ (image list : List ℕ) (v : Valid image list) where
@@ -143,6 +168,7 @@ unfolding total
 follow-total at to [] f = omega (arith, f)
 follow-total at to (s ∷ ss) f = let ih = follow-total (at + s .bytes) to ss (f .2) in omega arith
 
+-- "The byte lengths of a resumed listing add up to the image's length less that offset"
 pub lengths-add : (image list : List ℕ) (base at : ℕ) → refusalAt image list at ≡ 0 → total (steps image list base at) ≡ length image - at
 lengths-add image list base at e = let f = follow-total at (length image) (steps image list base at) (steps-follow image list base at e) in omega arith
 
@@ -165,9 +191,16 @@ once k at to (s ∷ ss) f h g =
     (λ t. rw (f .0, le-leb at k h, t, none-before k (at + s .bytes) to ss (f .2) (ltb-true _ _ t)))
     (λ t. let i = ih (ltb-false _ _ t) g in rw (f .0, le-leb at k h, t) (omega arith))
 
--- "no byte is listed twice": over a full listing each byte is in exactly one step
+-- "no byte is listed twice": from a place that is not refused each byte is in exactly one step, and none before it is in any
+pub bytes-once : (image list : List ℕ) (base at k : ℕ) → refusalAt image list at ≡ 0 → at ≤ k → k < length image → times k (steps image list base at) ≡ 1
+bytes-once image list base at k e h g = once k at (length image) (steps image list base at) (steps-follow image list base at e) h g
+
+pub bytes-before : (image list : List ℕ) (base at k : ℕ) → refusalAt image list at ≡ 0 → k < at → times k (steps image list base at) ≡ 0
+bytes-before image list base at k e h = none-before k at (length image) (steps image list base at) (steps-follow image list base at e) h
+
+-- over a full listing each byte is in one
 pub byte-once : (image list : List ℕ) (base k : ℕ) → refusal image list ≡ 0 → k < length image → times k (steps image list base 0) ≡ 1
-byte-once image list base k e h = once k 0 (length image) (steps image list base 0) (steps-follow image list base 0 (start image list e)) (omega arith) h
+byte-once image list base k e h = bytes-once image list base 0 k (start image list e) (omega arith) h
 
 -- the listing ends: there are at most half as many steps as bytes
 few-for : (image : List ℕ) (ss : List Stretch) (base fuel at : ℕ) → 2 * length (stepsFor image ss base at fuel) ≤ length image - at

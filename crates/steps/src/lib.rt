@@ -145,7 +145,7 @@ fn span_bytes(x: Span) -> usize
 }
 
 // The address of a place.
-fn address(base: u32, at: usize) -> u32
+pub fn address(base: u32, at: usize) -> u32
     ensures { λ r. ⌜ r ≡ moved base at ⌝ }
 {
     std::num::wrapping_add_u32(base, (at % 0x1_0000_0000) as u32)
