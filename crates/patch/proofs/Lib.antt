@@ -1,2 +1,4 @@
 pub mod Stored
 pub mod Answered
+pub mod Calls
+pub mod Patched

@@ -1,5 +1,5 @@
 -- What a patch answers, and what the image holds then, of document 02 (vi). Assumes nothing.
-use mathlib.Core.Bool.{cond}
+use mathlib.Core.Bool.{Bool, _&&_, cond, false}
 use mathlib.Core.List.{List}
 use Prim.Native.Nat.{ℕ, _+_, _/_, _%_, _^_}
 use lib.Dec.{eqb, leb, ltb}
@@ -7,6 +7,7 @@ use lib.ListN.{length, set}
 use Rattle.arm7tdmi.specs.Signed.{moved}
 use Rattle.arm7tdmi.specs.declared.Form.the-variants.{Sheet}
 use Rattle.lines.specs.Answer.{Answer}
+use Rattle.thumb.specs.Pair.{isPair}
 use Rattle.arm_print.specs.Print.{armLine}
 use Rattle.thumb_print.specs.Print.{thumbLine}
 use Rattle.reading.specs.Read.{readBack}
@@ -61,3 +62,9 @@ patchedIn image s p at l = cond (ltb (readIn s p l) (wordsOf s)) (0, stored imag
 unfoldable pub patched : List ℕ → List ℕ → ℕ → ℕ → List ℕ → ℕ × List ℕ
 patched image list base at l =
     cond (eqb (patchRefusal image list at) 0) (patchedIn image (setAt (pairs list) at) (moved base at) at l) (patchRefusal image list at, image)
+
+-- ---- the step there
+-- "a pair needs two patches": whether a word w that is stored at a place joins a pair with the halfword behind it, in Thumb, inside one stretch
+abbrev pub joins : Set → ℕ → ℕ → ℕ → Bool
+joins Arm at w behind = false
+joins (Thumb e) at w behind = leb (at + 4) e && isPair w behind

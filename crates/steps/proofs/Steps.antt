@@ -135,7 +135,7 @@ module _ (image list : List ℕ) (v : Valid image list) where
       by-set (Thumb n) e = rw e (in-thumb at n e (rw e at (p .even)))
 
   -- so before the image's end there is a step
-  step-there : (at : ℕ) → at < length image → Placed image list at → hasStep image (pairs list) at ≡ true
+  pub step-there : (at : ℕ) → at < length image → Placed image list at → hasStep image (pairs list) at ≡ true
   step-there at h p = le-leb (at + spanBytes (spanAt image (pairs list) at)) (length image) (place-next at h p .within)
 
   -- each step begins where the one before ends, the first at the place, and the last ends at the image's end
