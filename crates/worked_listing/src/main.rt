@@ -1,15 +1,21 @@
-// The worked listings. Each row of standard input is a case; standard output has the row, and under it what each step of its listing answers.
+// The worked listings and patches. Each row of standard input is shown on standard output, with what it gives under it.
 //
-// A row has, with spaces between them: the base and the place, in hexadecimal; how many bytes of buffer are lent; how often the bytes of the image are
-// repeated; these bytes, and those of the list of stretches, in hexadecimal, or none; and a title. A step is shown by its offset, its byte length and its
-// line, or ! and a refusal's number, or end. Where a step is refused with 3, the buffer has 80 bytes from then on.
+// A row of a listing has, with spaces between them: the base and the place, in hexadecimal; how many bytes of buffer are lent; how often the bytes of the
+// image are repeated; these bytes, and those of the list of stretches, in hexadecimal, or none; and a title. A step is shown by its offset, its byte length
+// and its line, or ! and a refusal's number, or end. Where a step is refused with 3, the buffer has 80 bytes from then on.
+//
+// The rows under it go on with that image. `patch`, an offset of eight digits and a sheet line: shown by the patch's number, and all bytes of the image then.
+// `resume`, an offset and a title: shown by the steps from there on.
+use image::half_at;
 use libc::STDIN_FILENO;
 use libc::STDOUT_FILENO;
+use patch::patch;
 use steps::Listed;
 use steps::list_step;
 use text::put::part;
 use text::put::put_byte;
 use text::put::put_dec;
+use text::put::put_hex;
 use text::put::put_text;
 use text::read::contains;
 use text::read::first_word;
@@ -118,8 +124,26 @@ fn put_steps(
     o
 }
 
-// One case: its row, and its steps.
-fn show(row: &[u8], image: &mut [u8; IMAGE], stretches: &mut [u8; SHOWN], out: &mut [u8; SHOWN]) {
+// The image that the rows are about: its base, and how many bytes it and the list of its stretches have.
+struct Case {
+    base: u32,
+    image: usize,
+    stretches: usize,
+}
+
+// A row, from the start of a buffer on.
+fn put_row(out: &mut [u8], row: &[u8]) -> usize {
+    let at = put_text(out, 0, row);
+    put_byte(out, at, b'\n')
+}
+
+// A listing: its image is filled in, and its steps are shown.
+fn show_listing(
+    row: &[u8],
+    image: &mut [u8; IMAGE],
+    stretches: &mut [u8; SHOWN],
+    out: &mut [u8; SHOWN],
+) -> Case {
     let base = read_hex(first_word(row));
     let row2 = next_word(row);
     let place = read_hex(first_word(row2)) as usize;
@@ -130,8 +154,7 @@ fn show(row: &[u8], image: &mut [u8; IMAGE], stretches: &mut [u8; SHOWN], out: &
     let row5 = next_word(row4);
     let n = fill(image, first_word(row5), times);
     let m = fill(stretches, first_word(next_word(row5)), 1);
-    let o = put_text(out, 0, row);
-    let o = put_byte(out, o, b'\n');
+    let o = put_row(out, row);
     let o = put_steps(
         out,
         o,
@@ -142,15 +165,99 @@ fn show(row: &[u8], image: &mut [u8; IMAGE], stretches: &mut [u8; SHOWN], out: &
         room,
     );
     io::write_all(STDOUT_FILENO, part(out, 0, o));
+    Case {
+        base,
+        image: n,
+        stretches: m,
+    }
 }
 
-// All cases. A case has a byte at least, so there are no more turns than bytes.
+// The listing, resumed.
+fn show_resumed(
+    row: &[u8],
+    case: Case,
+    image: &[u8; IMAGE],
+    stretches: &[u8; SHOWN],
+    out: &mut [u8; SHOWN],
+) {
+    let o = put_row(out, row);
+    let o = put_steps(
+        out,
+        o,
+        part(image, 0, case.image),
+        part(stretches, 0, case.stretches),
+        case.base,
+        read_hex(first_word(next_word(row))) as usize,
+        80,
+    );
+    io::write_all(STDOUT_FILENO, part(out, 0, o));
+}
+
+// A patch of the first n bytes of a buffer, or of all.
+fn patch_part(
+    buf: &mut [u8],
+    n: usize,
+    stretches: &[u8],
+    base: u32,
+    at: usize,
+    line: &[u8],
+) -> u32 {
+    if n <= buf.len() {
+        return patch(&mut buf[..n], stretches, base, at, line);
+    }
+    patch(buf, stretches, base, at, line)
+}
+
+// Bytes, as two digits each, or none.
+fn put_bytes(out: &mut [u8], from: usize, bytes: &[u8]) -> usize {
+    if bytes.len() == 0 {
+        return put_text(out, from, b"none");
+    }
+    let mut o = from;
+    let mut i = 0;
+    while i < bytes.len() {
+        o = put_hex(out, o, 2, half_at(bytes, i) % 256);
+        i += 1;
+    }
+    o
+}
+
+// The image, patched.
+fn show_patch(
+    row: &[u8],
+    case: Case,
+    image: &mut [u8; IMAGE],
+    stretches: &[u8; SHOWN],
+    out: &mut [u8; SHOWN],
+) {
+    let number = patch_part(
+        image,
+        case.image,
+        part(stretches, 0, case.stretches),
+        case.base,
+        read_hex(first_word(next_word(row))) as usize,
+        part(row, 15, row.len()),
+    );
+    let o = put_row(out, row);
+    let o = put_dec(out, o, number);
+    let o = put_byte(out, o, b' ');
+    let o = put_bytes(out, o, part(image, 0, case.image));
+    let o = put_byte(out, o, b'\n');
+    io::write_all(STDOUT_FILENO, part(out, 0, o));
+}
+
+// All rows. A row has a byte at least, so there are no more turns than bytes.
 fn show_all(
     table: &[u8],
     image: &mut [u8; IMAGE],
     stretches: &mut [u8; SHOWN],
     out: &mut [u8; SHOWN],
 ) {
+    let mut case = Case {
+        base: 0,
+        image: 0,
+        stretches: 0,
+    };
     let mut from = 0;
     let mut turns = table.len();
     while turns > 0 {
@@ -159,7 +266,14 @@ fn show_all(
         if rest.len() == 0 {
             return;
         }
-        show(part(rest, 0, n), image, stretches, out);
+        let row = part(rest, 0, n);
+        if contains(first_word(row), b'p') {
+            show_patch(row, case, image, stretches, out);
+        } else if contains(first_word(row), b'r') {
+            show_resumed(row, case, image, stretches, out);
+        } else {
+            case = show_listing(row, image, stretches, out);
+        }
         from = std::num::wrapping_add_usize(from, std::num::wrapping_add_usize(n, 1));
         turns -= 1;
     }

@@ -4,10 +4,10 @@ use Rattle.worked_listing.proofs.show_all.Statement.{statement}
 use Rattle.worked_listing.proofs.show_all.Tie as tie
 
 abbrev Inv-loop : tie.InvT-loop
-Inv-loop table image₀ stretches₀ out₀ from₀ turns₀ image stretches out from turns = Unit {0}
+Inv-loop table image₀ stretches₀ out₀ case₀ from₀ turns₀ image stretches out case from turns = Unit {0}
 
 abbrev μ-loop : tie.MeasureT-loop
-μ-loop table image₀ stretches₀ out₀ from₀ turns₀ image stretches out from turns = turns
+μ-loop table image₀ stretches₀ out₀ case₀ from₀ turns₀ image stretches out case from turns = turns
 
 pub show-all-spec : {M : Type 1} → statement M
 show-all-spec =
@@ -19,6 +19,12 @@ show-all-spec =
     (λ c κs. search needs)
     (λ c κs. search needs)
     (λ c. search needs)
+    (λ c κs. search needs)
+    (λ c κs. search needs)
+    (λ c κs. search needs)
+    (λ c κs. search needs)
+    (λ c κs. search needs)
+    (λ c κs. search needs)
     (λ c κs. search needs)
     (λ c κs. search needs)
     (λ c κs. search needs)
