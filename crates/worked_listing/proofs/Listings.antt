@@ -20,15 +20,15 @@ use Rattle.thumb_disass.specs.Line as TLine
 use Rattle.thumb_print.specs.Print as TPrint
 use Rattle.pairs.specs.Print.{pairLine, pairText}
 use Rattle.image.specs.Bytes.{half, word}
-use Rattle.image.specs.Refusal.{refusal, wrongPairs}
+use Rattle.image.specs.Refusal.{refusal, refusalAt, wrongPairs}
 use Rattle.image.specs.Stretches.{pairs, pairsFrom, setAt}
 use Rattle.steps.specs.Steps.{callPair, spanIn, spanLine, steps, stepsFor}
 use Rattle.worked_listing.specs.Listings.{givenRefusal, givenRow, refusals, table}
 
 pub worked-listings : map givenRow table ≡ table
-unfolding half word refusal wrongPairs pairs pairsFrom setAt callPair spanIn spanLine steps stepsFor first digits hex prefixed armCond condNames condText regNames regString extended address condAt either ifSet regAt Arm.branchOffset Arm.branchTarget armRows ALine.fmtBranch ALine.lineOf APrint.answerOf APrint.armLine Thumb.opFormat5 Thumb.branchTarget Thumb.callHalf thumbRows isFirstHalf isPair isSecondHalf pairTarget TOperand.highDst TOperand.dstReg TOperand.srcReg TOperand.dstAndSrc TOperand.highOperands TLine.op5Text TLine.fmtThumbHighRegOpOrBx TLine.fmtThumbBranch TLine.fmtThumbBranchLongWithLink TLine.lineOf TPrint.thumbLine pairLine pairText
+unfolding half word refusal refusalAt wrongPairs pairs pairsFrom setAt callPair spanIn spanLine steps stepsFor first digits hex prefixed armCond condNames condText regNames regString extended address condAt either ifSet regAt Arm.branchOffset Arm.branchTarget armRows ALine.fmtBranch ALine.lineOf APrint.answerOf APrint.armLine Thumb.opFormat5 Thumb.branchTarget Thumb.callHalf thumbRows isFirstHalf isPair isSecondHalf pairTarget TOperand.highDst TOperand.dstReg TOperand.srcReg TOperand.dstAndSrc TOperand.highOperands TLine.op5Text TLine.fmtThumbHighRegOpOrBx TLine.fmtThumbBranch TLine.fmtThumbBranchLongWithLink TLine.lineOf TPrint.thumbLine pairLine pairText
 worked-listings = refl
 
 pub worked-refusals : map givenRefusal refusals ≡ refusals
-unfolding half word refusal wrongPairs pairs pairsFrom
+unfolding half word refusal refusalAt wrongPairs pairs pairsFrom setAt
 worked-refusals = refl
