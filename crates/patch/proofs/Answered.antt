@@ -21,11 +21,11 @@ use Rattle.image.specs.Stretches.{pairs, setAt}
 use Rattle.image.specs.declared.Set.{Set}
 use Rattle.image.specs.declared.Set.the-variants.{Arm, Thumb}
 use Rattle.image.proofs.Valid.{valid, placed, not-refused}
-use Rattle.patch.specs.Patch.{patchRefusal, patchedIn, withHalf, withWord}
+use Rattle.patch.specs.Patch.{patchRefusal, patchedIn, withNumber}
 
 -- ---- by what is read
 module _ (image : List ℕ) (p at : ℕ) (l : List ℕ) where
-  pub arm-word : (w : ℕ) → ArmAnswer.readAnswer Sheet p l ≡ ArmRead.Word w → patchedIn image Arm p at l ≡ (0, withWord image at w)
+  pub arm-word : (w : ℕ) → ArmAnswer.readAnswer Sheet p l ≡ ArmRead.Word w → patchedIn image Arm p at l ≡ (0, withNumber image at 4 w)
   unfolding ArmAnswer.readAnswer readArm patchedIn
   arm-word w e =
       let n = readArm Sheet p l in
@@ -41,7 +41,7 @@ module _ (image : List ℕ) (p at : ℕ) (l : List ℕ) where
       (λ t. let q : ArmRead.Word n ≡ ArmRead.Nothing = rw t at e in let z : _≡_ {A = ℕ} 0 1 = cc in absurd (omega arith))
       (λ t. rw t)
 
-  pub thumb-word : (e w : ℕ) → ThumbAnswer.readAnswer Sheet p l ≡ ThumbRead.Word w → patchedIn image (Thumb e) p at l ≡ (0, withHalf image at w)
+  pub thumb-word : (e w : ℕ) → ThumbAnswer.readAnswer Sheet p l ≡ ThumbRead.Word w → patchedIn image (Thumb e) p at l ≡ (0, withNumber image at 2 w)
   unfolding ThumbAnswer.readAnswer readThumb patchedIn
   thumb-word e w f =
       let n = readThumb Sheet p l in

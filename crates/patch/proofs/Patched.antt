@@ -129,7 +129,7 @@ module _ (image list : List ℕ) (base at : ℕ) (l image′ : List ℕ) (e : pa
 
   -- the word stands there: the lowest of the set that prints the line
   pub word-there : wordIn image′ set at ≡ w
-  word-there = rw (done .1) (stored-there image set at w (room image list at allowed))
+  word-there = rw (done .1) (stored-there image set at w (room image list at allowed) (done .0))
 
   pub word-prints : wordLine set pc (wordIn image′ set at) ≡ line l
   word-prints = rw word-there (read-prints (wordLine set pc) (wordsOf set) l w (done .0) refl .0)

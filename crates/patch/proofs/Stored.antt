@@ -1,8 +1,9 @@
--- Laws of a stored word: it stands there, and nothing else moves. Assumes nothing.
-use mathlib.Core.Path.{_≡_, _∙_}
+-- Laws of a stored number: it stands there, and nothing else moves. Assumes nothing.
+use mathlib.Core.Path.{_≡_, refl, ap, sym, _∙_}
 use mathlib.Core.List.{List}
 use mathlib.Core.Logic.{_⊎_, inl, inr, ⊎-elim}
-use Prim.Native.Nat.{ℕ, _+_, _/_, _%_, _^_, _≤_}
+use Prim.Native.Nat.{ℕ, zero, suc, _+_, _*_, _-_, _/_, _%_, _^_, _<_, _≤_}
+use native.Mathlib.Nat.{pow-suc}
 use native.Mathlib.Omega.{arith}
 use lib.ListN.{length, getD, set, length-set}
 use lib.Seq.{getD-set-same, getD-set-other}
@@ -10,94 +11,84 @@ use Rattle.image.specs.Bytes.{half, word}
 use Rattle.image.specs.Refusal.{unit}
 use Rattle.image.specs.declared.Set.{Set}
 use Rattle.image.specs.declared.Set.the-variants.{Arm, Thumb}
-use Rattle.patch.specs.Patch.{withHalf, withWord, wordIn, stored}
+use Rattle.patch.specs.Patch.{withNumber, wordIn, wordsOf, stored}
 
--- n bytes from k on and m bytes from at on, apart
+-- m bytes from k on and n bytes from at on, apart
 abbrev pub Apart : ℕ → ℕ → ℕ → ℕ → Type 0
-Apart k n at m = (k + n ≤ at) ⊎ (at + m ≤ k)
+Apart k m at n = (k + m ≤ at) ⊎ (at + n ≤ k)
 
--- a byte of the first of them
-part : (k n at m j : ℕ) → Apart k n at m → k ≤ j → j + 1 ≤ k + n → Apart j 1 at m
-part k n at m j a h g = ⊎-elim (λ x. inl (omega arith)) (λ y. inr (omega arith)) a
+-- ---- a number of any width
+-- one byte, and the rest behind it
+pub number-step : (l : List ℕ) (i end n : ℕ) → i < end → withNumber l i (end - i) n ≡ withNumber (set l i (n % 2 ^ 8)) (i + 1) (end - (i + 1)) (n / 2 ^ 8)
+unfolding withNumber
+number-step l i end n h = let e : end - i ≡ suc (end - (i + 1)) = omega arith in rw e
 
--- ---- 16 bits
-module _ (l : List ℕ) (at n : ℕ) where
-  half-length : length (withHalf l at n) ≡ length l
-  unfolding withHalf
-  half-length = simp length-set
+pub number-none : (l : List ℕ) (i end n : ℕ) → end ≤ i → withNumber l i (end - i) n ≡ l
+unfolding withNumber
+number-none l i end n h = let e : end - i ≡ 0 = omega arith in rw e
 
-  half-other : (k : ℕ) → Apart k 1 at 2 → getD (withHalf l at n) k 0 ≡ getD l k 0
-  unfolding withHalf
-  half-other k a =
-      getD-set-other (set l at (n % 2 ^ 8)) (at + 1) k (n / 2 ^ 8) 0 (λ z. ⊎-elim (λ x. omega (arith, x, z)) (λ y. omega (arith, y, z)) a)
-      ∙ getD-set-other l at k (n % 2 ^ 8) 0 (λ z. ⊎-elim (λ x. omega (arith, x, z)) (λ y. omega (arith, y, z)) a)
+number-length : (width : ℕ) (l : List ℕ) (at n : ℕ) → length (withNumber l at width n) ≡ length l
+unfolding withNumber
+number-length zero l at n = refl
+number-length (suc width) l at n = number-length width (set l at (n % 2 ^ 8)) (at + 1) (n / 2 ^ 8) ∙ simp length-set
 
-  half-there : at + 2 ≤ length l → half (withHalf l at n) at ≡ n
-  unfolding withHalf half
-  half-there h =
-      let m = set l at (n % 2 ^ 8) in
-      let a : getD (set m (at + 1) (n / 2 ^ 8)) (at + 1) 0 ≡ n / 2 ^ 8 = getD-set-same m (at + 1) (n / 2 ^ 8) 0 (simp length-set (omega arith)) in
-      let b : getD (set m (at + 1) (n / 2 ^ 8)) at 0 ≡ n % 2 ^ 8 = getD-set-other m (at + 1) at (n / 2 ^ 8) 0 (λ z. omega (arith, z)) ∙ getD-set-same l at (n % 2 ^ 8) 0 (omega arith) in
-      omega (arith, a, b)
+number-other : (width : ℕ) (l : List ℕ) (at n k : ℕ) → Apart k 1 at width → getD (withNumber l at width n) k 0 ≡ getD l k 0
+unfolding withNumber
+number-other zero l at n k a = refl
+number-other (suc width) l at n k a =
+    number-other width (set l at (n % 2 ^ 8)) (at + 1) (n / 2 ^ 8) k (⊎-elim (λ x. inl (omega arith)) (λ y. inr (omega arith)) a)
+    ∙ getD-set-other l at k (n % 2 ^ 8) 0 (λ z. ⊎-elim (λ x. omega arith) (λ y. omega arith) a)
 
--- ---- bytes that are the same hold the same numbers
-abbrev pub Same : List ℕ → List ℕ → ℕ → ℕ → Type 0
-Same xs ys k n = (j : ℕ) → k ≤ j → j + 1 ≤ k + n → getD xs j 0 ≡ getD ys j 0
+-- the number that so many bytes hold
+abbrev numberAt : List ℕ → ℕ → ℕ → ℕ
+numberAt l at zero = 0
+numberAt l at (suc width) = getD l at 0 + numberAt l (at + 1) width * 2 ^ 8
 
-half-same : (xs ys : List ℕ) (k : ℕ) → Same xs ys k 2 → half xs k ≡ half ys k
-unfolding half
-half-same xs ys k e = rw (e k (omega arith) (omega arith), e (k + 1) (omega arith) (omega arith))
-
-word-same : (xs ys : List ℕ) (k : ℕ) → Same xs ys k 4 → word xs k ≡ word ys k
-unfolding word
-word-same xs ys k e = rw (half-same xs ys k (λ j h g. e j h (omega arith)), half-same xs ys (k + 2) (λ j h g. e j (omega arith) (omega arith)))
-
--- ---- 32 bits
-module _ (l : List ℕ) (at n : ℕ) where
-  abbrev low : List ℕ
-  low = withHalf l at (n % 2 ^ 16)
-
-  word-length : length (withWord l at n) ≡ length l
-  unfolding withWord
-  word-length = half-length low (at + 2) (n / 2 ^ 16) ∙ half-length l at (n % 2 ^ 16)
-
-  word-other : (k : ℕ) → Apart k 1 at 4 → getD (withWord l at n) k 0 ≡ getD l k 0
-  unfolding withWord
-  word-other k a =
-      half-other low (at + 2) (n / 2 ^ 16) k (⊎-elim (λ x. inl (omega (arith, x))) (λ y. inr (omega (arith, y))) a)
-      ∙ half-other l at (n % 2 ^ 16) k (⊎-elim (λ x. inl (omega (arith, x))) (λ y. inr (omega (arith, y))) a)
-
-  word-there : at + 4 ≤ length l → word (withWord l at n) at ≡ n
-  unfolding withWord word
-  word-there h =
-      let k = half-length l at (n % 2 ^ 16) in
-      let a = half-same (withHalf low (at + 2) (n / 2 ^ 16)) low at (λ j h g. half-other low (at + 2) (n / 2 ^ 16) j (inl (omega arith))) ∙ half-there l at (n % 2 ^ 16) (omega arith) in
-      let b = half-there low (at + 2) (n / 2 ^ 16) (omega (arith, k)) in
-      omega (arith, a, b)
+number-there : (width : ℕ) (l : List ℕ) (at n : ℕ) → at + width ≤ length l → n < 256 ^ width → numberAt (withNumber l at width n) at width ≡ n
+unfolding withNumber
+number-there zero l at n h g = omega arith
+number-there (suc width) l at n h g =
+    let m = set l at (n % 2 ^ 8) in
+    let b : n < 256 ^ width * 256 = rw pow-suc at g in
+    let low = number-other width m (at + 1) (n / 2 ^ 8) at (inl (omega arith)) ∙ getD-set-same l at (n % 2 ^ 8) 0 (omega arith) in
+    let high = number-there width m (at + 1) (n / 2 ^ 8) (simp length-set (omega arith)) (omega arith) in
+    rw (low, high) (omega arith)
 
 -- ---- a word of either set
--- there are as many bytes
-pub stored-length : (image : List ℕ) (s : Set) (at w : ℕ) → length (stored image s at w) ≡ length image
-stored-length image Arm at w = word-length image at w
-stored-length image (Thumb e) at w = half-length image at w
+as-number : (image : List ℕ) (s : Set) (at : ℕ) → wordIn image s at ≡ numberAt image at (unit s)
+unfolding half word
+as-number image Arm at =
+    let e : at + 1 + 1 ≡ at + 2 = omega arith in
+    let f : at + 1 + 1 + 1 ≡ at + 2 + 1 = omega arith in
+    rw (f, e) (omega arith)
+as-number image (Thumb e) at = omega arith
 
--- the word stands there
-pub stored-there : (image : List ℕ) (s : Set) (at w : ℕ) → at + unit s ≤ length image → wordIn (stored image s at w) s at ≡ w
-stored-there image Arm at w h = word-there image at w h
-stored-there image (Thumb e) at w h = half-there image at w h
+in-bytes : (s : Set) (w : ℕ) → w < wordsOf s → w < 256 ^ unit s
+in-bytes Arm w h = h
+in-bytes (Thumb e) w h = h
 
--- each other byte is as it was
-pub stored-other : (image : List ℕ) (s : Set) (at w k : ℕ) → Apart k 1 at (unit s) → getD (stored image s at w) k 0 ≡ getD image k 0
-stored-other image Arm at w k a = word-other image at w k a
-stored-other image (Thumb e) at w k a = half-other image at w k a
+module _ (image : List ℕ) (s : Set) (at w : ℕ) where
+  -- there are as many bytes
+  pub stored-length : length (stored image s at w) ≡ length image
+  stored-length = number-length (unit s) image at w
 
--- and so are the halfwords and words elsewhere
-module _ (image : List ℕ) (s : Set) (at w k : ℕ) where
-  same-part : (n : ℕ) → Apart k n at (unit s) → Same (stored image s at w) image k n
-  same-part n a j h g = stored-other image s at w j (part k n at (unit s) j a h g)
+  -- the word stands there
+  pub stored-there : at + unit s ≤ length image → w < wordsOf s → wordIn (stored image s at w) s at ≡ w
+  stored-there h g = as-number (stored image s at w) s at ∙ number-there (unit s) image at w h (in-bytes s w g)
 
-  pub half-kept : Apart k 2 at (unit s) → half (stored image s at w) k ≡ half image k
-  half-kept a = half-same (stored image s at w) image k (same-part 2 a)
+  -- each other byte is as it was
+  pub stored-other : (k : ℕ) → Apart k 1 at (unit s) → getD (stored image s at w) k 0 ≡ getD image k 0
+  stored-other k a = number-other (unit s) image at w k a
 
-  pub word-kept : Apart k 4 at (unit s) → word (stored image s at w) k ≡ word image k
-  word-kept a = word-same (stored image s at w) image k (same-part 4 a)
+  -- and so are the halfwords and words elsewhere
+  part : (k m j : ℕ) → Apart k m at (unit s) → k ≤ j → j + 1 ≤ k + m → getD (stored image s at w) j 0 ≡ getD image j 0
+  part k m j a h g = stored-other j (⊎-elim (λ x. inl (omega arith)) (λ y. inr (omega arith)) a)
+
+  pub half-kept : (k : ℕ) → Apart k 2 at (unit s) → half (stored image s at w) k ≡ half image k
+  unfolding half
+  half-kept k a = rw (part k 2 k a (omega arith) (omega arith), part k 2 (k + 1) a (omega arith) (omega arith))
+
+  pub word-kept : (k : ℕ) → Apart k 4 at (unit s) → word (stored image s at w) k ≡ word image k
+  unfolding word
+  word-kept k a =
+      rw (half-kept k (⊎-elim (λ x. inl (omega arith)) (λ y. inr (omega arith)) a), half-kept (k + 2) (⊎-elim (λ x. inl (omega arith)) (λ y. inr (omega arith)) a))

@@ -1,7 +1,7 @@
 -- What a patch answers, and what the image holds then, of document 02 (vi). Assumes nothing.
 use mathlib.Core.Bool.{Bool, _&&_, cond, false}
 use mathlib.Core.List.{List}
-use Prim.Native.Nat.{ℕ, _+_, _/_, _%_, _^_}
+use Prim.Native.Nat.{ℕ, zero, suc, _+_, _/_, _%_, _^_}
 use lib.Dec.{eqb, leb, ltb}
 use lib.ListN.{length, set}
 use Rattle.arm7tdmi.specs.Signed.{moved}
@@ -12,7 +12,7 @@ use Rattle.arm_print.specs.Print.{armLine}
 use Rattle.thumb_print.specs.Print.{thumbLine}
 use Rattle.reading.specs.Read.{readBack}
 use Rattle.image.specs.Bytes.{half, word}
-use Rattle.image.specs.Refusal.{refusalAt}
+use Rattle.image.specs.Refusal.{refusalAt, unit}
 use Rattle.image.specs.Stretches.{pairs, setAt}
 use Rattle.image.specs.declared.Set.{Set}
 use Rattle.image.specs.declared.Set.the-variants.{Arm, Thumb}
@@ -37,17 +37,14 @@ abbrev pub readIn : Set → ℕ → List ℕ → ℕ
 readIn s p l = readBack (wordLine s p) (wordsOf s) l
 
 -- ---- a word stored
--- 16 bits, and 32 bits, from a place on, little-endian; all other bytes are as they were
-unfoldable pub withHalf : List ℕ → ℕ → ℕ → List ℕ
-withHalf bytes at n = set (set bytes at (n % 2 ^ 8)) (at + 1) (n / 2 ^ 8)
-
-unfoldable pub withWord : List ℕ → ℕ → ℕ → List ℕ
-withWord bytes at n = withHalf (withHalf bytes at (n % 2 ^ 16)) (at + 2) (n / 2 ^ 16)
+-- a number in so many bytes from a place on, little-endian; all other bytes are as they were
+unfoldable pub withNumber : List ℕ → ℕ → ℕ → ℕ → List ℕ
+withNumber bytes at zero n = bytes
+withNumber bytes at (suc width) n = withNumber (set bytes at (n % 2 ^ 8)) (at + 1) width (n / 2 ^ 8)
 
 -- it "overwrites just the 4 or 2 bytes of one word"
 abbrev pub stored : List ℕ → Set → ℕ → ℕ → List ℕ
-stored image Arm at w = withWord image at w
-stored image (Thumb e) at w = withHalf image at w
+stored image s at w = withNumber image at (unit s) w
 
 -- ---- the answer
 -- "Refusal 8, for resuming and patching: .. or for a patch equal to the end. It follows 6 and 7": 6, 7, 8, or 0 for none

@@ -1,9 +1,9 @@
 // A patch: one word of a lent image, read from its sheet line and overwritten.
 ghost use mathlib.Core.Path.{_≡_};
-ghost use Prim.Native.Nat.{_+_, _^_, _<_, _≤_};
+ghost use Prim.Native.Nat.{_+_, _≤_};
 ghost use lib.ListN.{length};
 ghost use Rattle.image.specs.Refusal.{unit};
-ghost use Rattle.patch.specs.Patch.{withHalf, withWord, patchRefusal, patchedIn, patched};
+ghost use Rattle.patch.specs.Patch.{withNumber, patchRefusal, patchedIn, patched};
 use arm_read::ArmRead;
 use arm_read::read_arm;
 use arm7tdmi::Form;
@@ -14,21 +14,19 @@ use steps::address;
 use thumb_read::ThumbRead;
 use thumb_read::read_thumb;
 
-// Stores 16 bits, and 32 bits, at a place where there are as many bytes.
-fn put_half(bytes: &mut [u8], at: usize, n: u32)
-    requires { ⌜ (at + 2 ≤ length (now bytes)) × (n < 2 ^ 16) ⌝ }
-    ensures { λ r. ⌜ now (bytes .exit) ≡ withHalf (now (bytes .entry)) at n ⌝ }
+// Stores a number in so many bytes from a place on, little-endian.
+fn put_number(bytes: &mut [u8], at: usize, width: usize, n: u32)
+    requires { ⌜ at + width ≤ length (now bytes) ⌝ }
+    ensures { λ r. ⌜ now (bytes .exit) ≡ withNumber (now (bytes .entry)) at width n ⌝ }
 {
-    bytes[at] = (n % 256) as u8;
-    bytes[at + 1] = (n / 256) as u8;
-}
-
-fn put_word(bytes: &mut [u8], at: usize, n: u32)
-    requires { ⌜ at + 4 ≤ length (now bytes) ⌝ }
-    ensures { λ r. ⌜ now (bytes .exit) ≡ withWord (now (bytes .entry)) at n ⌝ }
-{
-    put_half(bytes, at, n % 65536);
-    put_half(bytes, at + 2, n / 65536);
+    let end = at + width;
+    let mut i = at;
+    let mut rest = n;
+    while i < end {
+        bytes[i] = (rest % 256) as u8;
+        rest = rest / 256;
+        i += 1;
+    }
 }
 
 // 6, 7 or 8 where a patch is refused whatever its line is, or 0.
@@ -53,14 +51,14 @@ fn overwrite(image: &mut [u8], s: Set, pc: u32, at: usize, line: &[u8]) -> u32
     match s {
         Set::Arm => match read_arm(Form::Sheet, pc, line) {
             ArmRead::Word(word) => {
-                put_word(image, at, word);
+                put_number(image, at, 4, word);
                 0
             }
             ArmRead::Nothing => 4,
         },
         Set::Thumb(_) => match read_thumb(Form::Sheet, pc, line) {
             ThumbRead::Word(word) => {
-                put_half(image, at, word as u32);
+                put_number(image, at, 2, word as u32);
                 0
             }
             ThumbRead::Nothing => 4,

@@ -46,7 +46,7 @@ use Rattle.image.specs.Stretches.{pairs, pairsFrom, setAt}
 use Rattle.image.specs.declared.Set.{Set}
 use Rattle.image.specs.declared.Set.the-variants as Set
 use Rattle.steps.specs.Steps.{callPair, spanIn, spanLine, steps, stepsFor}
-use Rattle.patch.specs.Patch.{patched, patchedIn, patchRefusal, readIn, stored, withHalf, withWord, wordsOf}
+use Rattle.patch.specs.Patch.{patched, patchedIn, patchRefusal, readIn, stored, withNumber, wordsOf}
 use Rattle.worked_listing.specs.Patches.{Row, givenRow, rowOf, table}
 
 -- what a line reads as, with the reader's law in place of the lowest word
@@ -75,7 +75,7 @@ abbrev lawRow : Row → Row
 lawRow r = rowOf r (byLaw (r .image) (r .list) (r .base) (r .offset) (r .line))
 
 computed : map lawRow table ≡ table
-unfolding half word refusal refusalAt wrongPairs pairs pairsFrom setAt patchRefusal withHalf withWord callPair spanIn spanLine steps stepsFor isPair isFirstHalf isSecondHalf pairTarget pairLine pairText first same digits hex prefixed digitValue valueFrom address extended aluOpCode amountOf barrelShiftOpCode sheetAmount armCond armRows thumbRows regNames regString condNames condText regNamed condNamed condAt either ifSet regAt Arm.branchOffset Arm.branchTarget Arm.bsOp Arm.shiftRegBy Arm.operand2 ALine.opText ALine.fmtBranch ALine.fmtMove ALine.fmtThree ALine.fmtOpcode ALine.fmtDataProcessing AOperand.shiftText AOperand.placesText AOperand.amountText AOperand.byAmount AOperand.shiftBy AOperand.shiftedRegister AOperand.fmtOperand2 AOperand.rdText ALine.lineOf APrint.answerOf APrint.armLine candidate dpCand dpFrom undefinedCand condOf headOf stemNames stemOf stems operandOf shiftNamed shiftNames shiftOf shiftedOf Words.isWord Words.word Words.behind Words.after Words.has Thumb.opFormat5 Thumb.branchTarget Thumb.callHalf TOperand.highDst TOperand.dstReg TOperand.srcReg TOperand.dstAndSrc TOperand.highOperands TLine.op5Text TLine.fmtThumbHighRegOpOrBx TLine.fmtThumbBranch TLine.fmtThumbBranchLongWithLink TLine.lineOf TPrint.thumbLine TCandidate.candidates TCandidate.candidate TCandidate.operands TCandidate.offsetIn TCandidate.highIn TCandidate.lowIn TCandidate.shiftIn TCandidate.suits TLine.shiftText TLine.fmtThumbMoveShiftedReg rows best
+unfolding half word refusal refusalAt wrongPairs pairs pairsFrom setAt patchRefusal withNumber callPair spanIn spanLine steps stepsFor isPair isFirstHalf isSecondHalf pairTarget pairLine pairText first same digits hex prefixed digitValue valueFrom address extended aluOpCode amountOf barrelShiftOpCode sheetAmount armCond armRows thumbRows regNames regString condNames condText regNamed condNamed condAt either ifSet regAt Arm.branchOffset Arm.branchTarget Arm.bsOp Arm.shiftRegBy Arm.operand2 ALine.opText ALine.fmtBranch ALine.fmtMove ALine.fmtThree ALine.fmtOpcode ALine.fmtDataProcessing AOperand.shiftText AOperand.placesText AOperand.amountText AOperand.byAmount AOperand.shiftBy AOperand.shiftedRegister AOperand.fmtOperand2 AOperand.rdText ALine.lineOf APrint.answerOf APrint.armLine candidate dpCand dpFrom undefinedCand condOf headOf stemNames stemOf stems operandOf shiftNamed shiftNames shiftOf shiftedOf Words.isWord Words.word Words.behind Words.after Words.has Thumb.opFormat5 Thumb.branchTarget Thumb.callHalf TOperand.highDst TOperand.dstReg TOperand.srcReg TOperand.dstAndSrc TOperand.highOperands TLine.op5Text TLine.fmtThumbHighRegOpOrBx TLine.fmtThumbBranch TLine.fmtThumbBranchLongWithLink TLine.lineOf TPrint.thumbLine TCandidate.candidates TCandidate.candidate TCandidate.operands TCandidate.offsetIn TCandidate.highIn TCandidate.lowIn TCandidate.shiftIn TCandidate.suits TLine.shiftText TLine.fmtThumbMoveShiftedReg rows best
 computed = refl
 
 -- rows that are given alike are given alike as a table

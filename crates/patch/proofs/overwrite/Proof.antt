@@ -1,28 +1,27 @@
 -- `patch::overwrite` meets its contract. Assumes nothing.
 use borrow.Author.Needs.{needs}
 use denote.Ref.{now}
-use native.Mathlib.Omega.{arith}
 use mathlib.Core.Path.{_∙_, sym}
 use Rattle.patch.proofs.Answered.{arm-nothing, arm-word, thumb-nothing, thumb-word}
 use Rattle.patch.proofs.overwrite.Statement.{statement}
 use Rattle.patch.proofs.overwrite.Tie as tie
 
-put-word-requires : tie.Need-put-word-requires
-put-word-requires c κs =
+put-number-requires : tie.Need-put-number-requires
+put-number-requires c κs =
     let d = c .before .before .before .before .before in
     rw (d .enum-told .given .1) at (d .before .before .before .before .pre)
 
-put-half-requires : tie.Need-put-half-requires
-put-half-requires c κs =
+put-number-requires-2 : tie.Need-put-number-requires-2
+put-number-requires-2 c κs =
     let d = c .before .before .before .before .before in
-    (rw (d .enum-told3 .given .1) at (d .before .before .before .before .pre), omega arith)
+    rw (d .enum-told3 .given .1) at (d .before .before .before .before .pre)
 
 returns : tie.Need-returns
 returns c =
     let d = c .before .before .before .before .before in
     let r = d .before .before in
     let a = r .before .before .before .before .before .args in
-    rw (r .before .enum-told .given .1, c .before .before .put-word .ensures) (arm-word (now (a .image)) (a .pc) (a .at) (now (a .line)) _ (sym (r .read-arm .ensures) ∙ d .word .given .1))
+    rw (r .before .enum-told .given .1, c .before .before .put-number .ensures) (arm-word (now (a .image)) (a .pc) (a .at) (now (a .line)) _ (sym (r .read-arm .ensures) ∙ d .word .given .1))
 
 returns-2 : tie.Need-returns-2
 returns-2 c =
@@ -35,7 +34,7 @@ returns-3 c =
     let d = c .before .before .before .before .before in
     let r = d .before .before in
     let a = r .before .before .before .before .before .args in
-    rw (r .before .enum-told3 .given .1, c .before .before .put-half .ensures) (thumb-word (now (a .image)) (a .pc) (a .at) (now (a .line)) _ _ (sym (r .read-thumb .ensures) ∙ d .word2 .given .1))
+    rw (r .before .enum-told3 .given .1, c .before .before .put-number2 .ensures) (thumb-word (now (a .image)) (a .pc) (a .at) (now (a .line)) _ _ (sym (r .read-thumb .ensures) ∙ d .word2 .given .1))
 
 returns-4 : tie.Need-returns-4
 returns-4 c =
@@ -50,13 +49,13 @@ overwrite-spec =
     (λ c. search needs)
     (λ c κs. search needs)
     (λ c. search needs)
-    put-word-requires
+    put-number-requires
     (λ c. search needs)
     (λ c. search needs)
     (λ c κs. search needs)
     (λ c. search needs)
     (λ c. search needs)
-    put-half-requires
+    put-number-requires-2
     (λ c. search needs)
     (λ c. search needs)
     returns
