@@ -153,7 +153,13 @@ pub as-anywhere : (xs list : List ℕ) (base : ℕ) (l : Listing) (ys : List ℕ
 unfolding listStep
 as-anywhere xs list base l ys s = same-answer l ys (s .tells) ∙ rw (eq-eqb (refusalAt xs list (l .at)) 0 (s .fine), s .image-is, s .stretches-is, s .base-is)
 
--- and behind it, it stands so again
+-- so the first step of one that is resumed is the one step at that offset
+pub resumed-step : (xs list : List ℕ) (base offset : ℕ) (l : Listing) (ys : List ℕ) → Resumed xs list base offset l → refusalAt xs list offset ≡ 0 → stepFrom l ys ≡ listStep xs list base offset ys
+resumed-step xs list base offset l ys o e =
+    let s = resumed-stands xs list base offset l o e in
+    as-anywhere xs list base l ys (s .1) ∙ rw (s .0)
+
+-- and behind a step, it stands so again
 pub stands-on : (xs list : List ℕ) (base : ℕ) (l : Listing) (ys : List ℕ) (r : Listed) (zs : List ℕ) (l′ : Listing) → Stands xs list base l → Stepped-is l ys r zs l′ → Stands xs list base l′
 stands-on xs list base l ys r zs l′ s a =
     let e = sym (as-anywhere xs list base l ys s) ∙ a .answer in

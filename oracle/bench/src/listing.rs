@@ -21,21 +21,21 @@ const LISTINGS: u32 = 500;
 const ALONE: u32 = 1 << 31;
 
 /// Bytes of the longest line.
-const LINE: usize = 80;
+pub const LINE: usize = 80;
 
 /// Offset and length of a Thumb stretch.
-type Stretch = (usize, usize);
+pub type Stretch = (usize, usize);
 
 /// What a step prints.
 #[derive(Clone, Copy)]
-enum Span {
+pub enum Span {
     Word(u32),
     Half(u16),
     Pair(Pair),
 }
 
 /// So many stretches, equally spread, that cover half of the image, or none.
-fn spread(count: usize) -> Vec<Stretch> {
+pub fn spread(count: usize) -> Vec<Stretch> {
     let share = |words: usize, i: usize| 4 * (words * i / count);
     (0..count)
         .map(|i| {
@@ -47,7 +47,7 @@ fn spread(count: usize) -> Vec<Stretch> {
 
 /// An image of random words that print, and in its stretches of random
 /// halfwords.
-fn random_image(stretches: &[Stretch]) -> Vec<u8> {
+pub fn random_image(stretches: &[Stretch]) -> Vec<u8> {
     let mut line = [0; LINE];
     let mut image: Vec<u8> = (0..)
         .map(|place| silk::random(place) as u32)
@@ -64,7 +64,7 @@ fn random_image(stretches: &[Stretch]) -> Vec<u8> {
 }
 
 /// The list of stretches as the library takes it.
-fn list_of(stretches: &[Stretch]) -> Vec<u8> {
+pub fn list_of(stretches: &[Stretch]) -> Vec<u8> {
     stretches
         .iter()
         .flat_map(|&(offset, length)| [offset as u32, length as u32])
@@ -99,7 +99,7 @@ fn span_of(image: &[u8], stretches: &[Stretch], step: Step) -> Span {
     }
 }
 
-fn print(span: Span, address: u32, line: &mut [u8]) -> (u32, usize) {
+pub fn print(span: Span, address: u32, line: &mut [u8]) -> (u32, usize) {
     match span {
         Span::Word(word) => silk::print_arm(SHEET, word, address, line),
         Span::Half(half) => silk::print_thumb(SHEET, half, address, line),
@@ -108,7 +108,7 @@ fn print(span: Span, address: u32, line: &mut [u8]) -> (u32, usize) {
 }
 
 /// All steps of an image, each with its address, which print what it lists.
-fn steps_of(image: &[u8], stretches: &[Stretch]) -> Vec<(Span, u32)> {
+pub fn steps_of(image: &[u8], stretches: &[Stretch]) -> Vec<(Span, u32)> {
     let mut steps = Vec::new();
     list(image, &list_of(stretches), |step, line| {
         let span = span_of(image, stretches, step);

@@ -4,6 +4,7 @@
 //! these paths.
 
 mod listing;
+mod patch;
 
 use std::env;
 use std::fmt::{Display, Write as _};
@@ -310,6 +311,7 @@ fn main() -> io::Result<()> {
         |_, address, line| silk::read_pair(address, line),
     );
     run_of_pairs(&calls);
+    patch::table();
 
     let programs: Vec<String> = env::args().skip(1).collect();
     let [ours, rust, listing] = &programs[..] else {

@@ -64,6 +64,16 @@ mod c {
             bytes: *mut u32,
             length: *mut usize,
         ) -> u32;
+        pub fn silk_patch(
+            image: *mut u8,
+            image_length: usize,
+            stretches: *const u8,
+            stretches_length: usize,
+            base: u32,
+            offset: u32,
+            line: *const u8,
+            length: usize,
+        ) -> u32;
     }
 }
 
@@ -172,6 +182,23 @@ pub fn list_step(image: &[u8], stretches: &[u8], base: u32, place: u32, line: &m
         offset,
         bytes,
         length,
+    }
+}
+
+/// Patches the word at an offset by its sheet line; gives the number.
+pub fn patch(image: &mut [u8], stretches: &[u8], base: u32, offset: u32, line: &[u8]) -> u32 {
+    // SAFETY: all are lent for the call alone.
+    unsafe {
+        c::silk_patch(
+            image.as_mut_ptr(),
+            image.len(),
+            stretches.as_ptr(),
+            stretches.len(),
+            base,
+            offset,
+            line.as_ptr(),
+            line.len(),
+        )
     }
 }
 
