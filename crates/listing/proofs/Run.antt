@@ -8,6 +8,7 @@ use native.Mathlib.Nat.{add-zero}
 use native.Mathlib.Omega.{arith}
 use borrow.Author.Tests.{eq-eqb, ne-eqb}
 use denote.Ref.{now}
+use lib.Dec.{eqb}
 use lib.ListN.{length, drop, length-append, length-drop}
 use lib.Seq.{take-at}
 use Rattle.common.proofs.Tests.{by-test}
@@ -121,6 +122,12 @@ refused-resumed image list base offset l ys o f =
 
 pub refused-ends : (image list : List ℕ) (base : ℕ) (l : Listing) (ys : List ℕ) → Opened image list base l → (refusal image list ≡ 0 → ⊥) → stepFrom l ys ≡ (End 0, ys)
 refused-ends image list base l ys o f = refused-resumed image list base 0 l ys o (λ z. f (sym (start-same image list) ∙ z))
+
+-- one that was opened has 6, 7 or 0 for its number, and stands at the start
+pub opened-as : (image list : List ℕ) (base : ℕ) (l : Listing) → Opened image list base l → (l .number ≡ refusal image list) × (l .at ≡ 0)
+unfolding placeOf
+opened-as image list base l o =
+    (o .number-held ∙ start-same image list, o .place-held ∙ by-test (eqb (refusalAt image list 0) 0) (λ t. rw t) (λ t. rw t))
 
 -- ---- a listing on its way
 -- it holds an image that is not refused, and stands at a place that is not

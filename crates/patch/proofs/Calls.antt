@@ -6,10 +6,10 @@ use Prim.Native.Nat.{ℕ, _+_, _*_, _/_, _%_, _^_, _<_}
 use native.Mathlib.Omega.{arith}
 use borrow.Author.Tests.{eq-eqb}
 use Rattle.common.specs.Bits.{bitRange}
-use Rattle.common.specs.Lists.{first, same}
+use Rattle.common.specs.Lists.{same}
 use Rattle.text.specs.Digits.{prefixed}
 use Rattle.text.specs.Text.{text}
-use Rattle.text.specs.Word.{isGap, isWord, word}
+use Rattle.text.specs.Word.{isWord, word}
 use Rattle.text.proofs.Word.{word-of}
 use Rattle.arm7tdmi.specs.declared.Form.the-variants.{Sheet}
 use Rattle.lines.specs.Address.{address}
@@ -27,7 +27,7 @@ use Rattle.thumb_lowest.proofs.Read.{read-thumb}
 use Rattle.reading.proofs.Demand.{none-prints}
 use Rattle.reading.proofs.Several.{best}
 use Rattle.reading.specs.Parts.{hexIn}
-use Rattle.reading.specs.Read.{isLine, readBack}
+use Rattle.reading.specs.Read.{isLine}
 use Rattle.pairs.specs.Print.{pairText}
 
 -- the halves that a line says, with h as their bit 11
@@ -37,11 +37,6 @@ half h x = (0xf000 + h * 2 ^ 11 + x % 2 ^ 11) % 2 ^ 16
 halves : (x y : ℕ) → isPair (half 0 x) (half 1 y) ≡ true
 unfolding isPair isFirstHalf isSecondHalf
 halves x y = rw (eq-eqb (bitRange (half 0 x) 11 16) 30 (omega arith), eq-eqb (bitRange (half 1 y) 11 16) 31 (omega arith))
-
--- a number before others, if a test is true
-abbrev ifTrue : Bool → ℕ → List ℕ → List ℕ
-ifTrue true c cs = c ∷ cs
-ifTrue false c cs = cs
 
 module _ (p q first second : ℕ) where
   abbrev l : List ℕ
@@ -56,18 +51,22 @@ module _ (p q first second : ℕ) where
   unfolding pairText isWord
   begins = word-of (text "bl") (9 ∷ address Sheet _) refl refl
 
-  -- its candidates, by the mnemonic alone: those of the two rows `bl`
+  -- its candidates by the mnemonic: those of the two rows `bl`
+  abbrev before : Bool → ℕ → List ℕ → List ℕ
+  before true c cs = c ∷ cs
+  before false c cs = cs
+
   abbrev named : List ℕ → List Row → List ℕ
   named m [] = []
-  named m (r ∷ rs) = ifTrue (same (r .name) m && suits (r .kind) l) (candidate Sheet p l (r .kind) (r .bits)) (named m rs)
+  named m (r ∷ rs) = before (same (r .name) m && suits (r .kind) l) (candidate Sheet p l (r .kind) (r .bits)) (named m rs)
 
-  if-true : (b : Bool) (c : ℕ) (cs : List ℕ) → cond b (c ∷ cs) cs ≡ ifTrue b c cs
-  if-true true c cs = refl
-  if-true false c cs = refl
+  before-as : (b : Bool) (c : ℕ) (cs : List ℕ) → cond b (c ∷ cs) cs ≡ before b c cs
+  before-as true c cs = refl
+  before-as false c cs = refl
 
   by-name : (rs : List Row) → candidatesFrom Sheet p l rs ≡ named (word l) rs
   by-name [] = refl
-  by-name (r ∷ rs) = rw (by-name rs) (if-true (same (r .name) (word l) && suits (r .kind) l) (candidate Sheet p l (r .kind) (r .bits)) (named (word l) rs))
+  by-name (r ∷ rs) = rw (by-name rs) (before-as (same (r .name) (word l) && suits (r .kind) l) (candidate Sheet p l (r .kind) (r .bits)) (named (word l) rs))
 
   abbrev both : List ℕ
   both = candidate Sheet p l BranchLongWithLink 0xf000 ∷ candidate Sheet p l BranchLongWithLink 0xf800 ∷ []

@@ -1,8 +1,8 @@
 -- `patch::overwrite` meets its contract. Assumes nothing.
 use borrow.Author.Needs.{needs}
 use denote.Ref.{now}
-use mathlib.Core.Path.{_∙_, sym}
-use Rattle.patch.proofs.Answered.{arm-nothing, arm-word, thumb-nothing, thumb-word}
+use mathlib.Core.Path.{_∙_}
+use Rattle.patch.proofs.Answered.{arm-answer, thumb-answer}
 use Rattle.patch.proofs.overwrite.Statement.{statement}
 use Rattle.patch.proofs.overwrite.Tie as tie
 
@@ -21,26 +21,26 @@ returns c =
     let d = c .before .before .before .before .before in
     let r = d .before .before in
     let a = r .before .before .before .before .before .args in
-    rw (r .before .enum-told .given .1, c .before .before .put-number .ensures) (arm-word (now (a .image)) (a .pc) (a .at) (now (a .line)) _ (sym (r .read-arm .ensures) ∙ d .word .given .1))
+    rw (r .before .enum-told .given .1, c .before .before .put-number .ensures) (arm-answer (now (a .image)) (a .pc) (a .at) (now (a .line)) ∙ rw (← r .read-arm .ensures, d .word .given .1))
 
 returns-2 : tie.Need-returns-2
 returns-2 c =
     let r = c .before .before in
     let a = r .before .before .before .before .before .args in
-    rw (r .before .enum-told .given .1) (arm-nothing (now (a .image)) (a .pc) (a .at) (now (a .line)) (sym (r .read-arm .ensures) ∙ c .enum-told2 .given .1))
+    rw (r .before .enum-told .given .1) (arm-answer (now (a .image)) (a .pc) (a .at) (now (a .line)) ∙ rw (← r .read-arm .ensures, c .enum-told2 .given .1))
 
 returns-3 : tie.Need-returns-3
 returns-3 c =
     let d = c .before .before .before .before .before in
     let r = d .before .before in
     let a = r .before .before .before .before .before .args in
-    rw (r .before .enum-told3 .given .1, c .before .before .put-number2 .ensures) (thumb-word (now (a .image)) (a .pc) (a .at) (now (a .line)) _ _ (sym (r .read-thumb .ensures) ∙ d .word2 .given .1))
+    rw (r .before .enum-told3 .given .1, c .before .before .put-number2 .ensures) (thumb-answer (now (a .image)) (a .pc) (a .at) (now (a .line)) _ ∙ rw (← r .read-thumb .ensures, d .word2 .given .1))
 
 returns-4 : tie.Need-returns-4
 returns-4 c =
     let r = c .before .before in
     let a = r .before .before .before .before .before .args in
-    rw (r .before .enum-told3 .given .1) (thumb-nothing (now (a .image)) (a .pc) (a .at) (now (a .line)) _ (sym (r .read-thumb .ensures) ∙ c .enum-told4 .given .1))
+    rw (r .before .enum-told3 .given .1) (thumb-answer (now (a .image)) (a .pc) (a .at) (now (a .line)) _ ∙ rw (← r .read-thumb .ensures, c .enum-told4 .given .1))
 
 pub overwrite-spec : {M : Type 1} → statement M
 overwrite-spec =
