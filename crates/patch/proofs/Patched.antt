@@ -6,17 +6,17 @@ use mathlib.Core.Logic.{inr}
 use Prim.Native.Nat.{ℕ, _+_, _<_, _≤_}
 use native.Mathlib.Nat.{le-refl}
 use native.Mathlib.Omega.{arith}
-use borrow.Author.Tests.{eqb-true, eq-eqb, le-ltb, lt-ltb, ltb-true}
-use lib.Dec.{eqb, ltb}
+use borrow.Author.Tests.{eqb-true, eq-eqb, le-ltb, lt-ltb, ltb-false, ltb-true}
+use lib.Dec.{eqb, leb, ltb}
 use lib.ListN.{length, drop, getD}
 use Rattle.common.proofs.Tests.{by-test}
 use Rattle.arm7tdmi.specs.Signed.{moved}
 use Rattle.lines.specs.Answer.{line}
 use Rattle.pairs.specs.Print.{pairLine, pairText}
 use Rattle.pairs.proofs.Printing.{is-printed}
-use Rattle.reading.proofs.Demand.{OthersHigher, none-read, prints-read, read-prints}
+use Rattle.reading.proofs.Demand.{OthersHigher, none-prints, none-read, prints-read, read-most, read-prints}
 use Rattle.image.specs.Bytes.{half, word}
-use Rattle.image.specs.Refusal.{refusal, refusalAt, unit}
+use Rattle.image.specs.Refusal.{refusal, refusalAt, unit, wrongImage, wrongList, wrongPlace}
 use Rattle.image.specs.Stretches.{pairs, setAt}
 use Rattle.image.specs.declared.Set.{Set}
 use Rattle.image.specs.declared.Set.the-variants.{Arm, Thumb}
@@ -61,6 +61,18 @@ pair-apart Arm p at w behind l j h e f = absurd (true≢false (sym j))
 pair-apart (Thumb n) p at w behind l j h e f = no-half p p w behind w h (e ∙ sym (ap line (is-printed p w behind l f .1)))
 
 -- ---- what is refused, and what is stored
+-- whatever its line, a patch is refused with 6, 7 or 8 alone
+place-number : (P : ℕ → Type 0) (image list : List ℕ) (at : ℕ) → P 0 → P 6 → P 7 → P 8 → P (patchRefusal image list at)
+unfolding patchRefusal refusalAt refusal
+place-number P image list at none six seven eight =
+    by-test (wrongImage image)
+    (λ a. rw a six)
+    (λ a. by-test (wrongList image list)
+    (λ b. rw (a, b) seven)
+    (λ b. by-test (wrongPlace image list at)
+    (λ c. rw (a, b, c) eight)
+    (λ c. by-test (leb (length image) at) (λ d. rw (a, b, c, d) eight) (λ d. rw (a, b, c, d) none))))
+
 module _ (image list : List ℕ) (base at : ℕ) (l : List ℕ) where
   abbrev s : Set
   s = setAt (pairs list) at
@@ -72,6 +84,18 @@ module _ (image list : List ℕ) (base at : ℕ) (l : List ℕ) where
   pub none-four : patchRefusal image list at ≡ 0 → ((w : ℕ) → w < wordsOf s → wordLine s p w ≡ line l → ⊥) → patched image list base at l ≡ (4, image)
   unfolding patched patchedIn
   none-four e n = rw (eq-eqb (patchRefusal image list at) 0 e, none-read (wordLine s p) (wordsOf s) l n, le-ltb (wordsOf s) (wordsOf s) (le-refl (wordsOf s)))
+
+  -- and only then
+  pub four-none : (image′ : List ℕ) → patched image list base at l ≡ (4, image′) → (w : ℕ) → w < wordsOf s → wordLine s p w ≡ line l → ⊥
+  unfolding patched patchedIn
+  four-none image′ e w h q =
+      by-test (eqb (patchRefusal image list at) 0)
+      (λ t. by-test (ltb (readIn s p l) (wordsOf s))
+      (λ u. let z : _≡_ {A = ℕ} 0 4 = ap (λ (z : ℕ × List ℕ). z .0) (rw (t, u) at e) in absurd (omega arith))
+      (λ u. let m = read-most (wordLine s p) (wordsOf s) l in let n = ltb-false (readIn s p l) (wordsOf s) u in
+      none-prints (wordLine s p) (wordsOf s) l (omega (arith, m, n)) w h q))
+      (λ t. let z : patchRefusal image list at ≡ 4 = ap (λ (z : ℕ × List ℕ). z .0) (rw t at e) in
+      place-number (λ (n : ℕ). n ≡ 4 → ⊥) image list at (λ y. omega arith) (λ y. omega arith) (λ y. omega arith) (λ y. omega arith) z)
 
   -- else the lowest that does is written
   pub some-stored : patchRefusal image list at ≡ 0 → (w : ℕ) → w < wordsOf s → wordLine s p w ≡ line l → OthersHigher (wordLine s p) (wordsOf s) l w
@@ -88,6 +112,14 @@ module _ (image list : List ℕ) (base at : ℕ) (l : List ℕ) where
       (λ u. let q : _≡_ {A = ℕ × List ℕ} (0, stored image s at (readIn s p l)) (n, image′) = rw (t, u) at e in absurd (f (sym (ap (λ (z : ℕ × List ℕ). z .0) q))))
       (λ u. let q : _≡_ {A = ℕ × List ℕ} (4, image) (n, image′) = rw (t, u) at e in sym (ap (λ (z : ℕ × List ℕ). z .1) q)))
       (λ t. let q : _≡_ {A = ℕ × List ℕ} (patchRefusal image list at, image) (n, image′) = rw t at e in sym (ap (λ (z : ℕ × List ℕ). z .1) q))
+
+  -- the number is 0, or 6, 7, 8 or 4
+  pub patch-number : (P : ℕ → Type 0) → P 0 → P 4 → P 6 → P 7 → P 8 → P (patched image list base at l .0)
+  unfolding patched patchedIn
+  patch-number P none four six seven eight =
+      by-test (eqb (patchRefusal image list at) 0)
+      (λ t. by-test (ltb (readIn s p l) (wordsOf s)) (λ u. rw (t, u) none) (λ u. rw (t, u) four))
+      (λ t. rw t (place-number P image list at none six seven eight))
 
 -- "a pair needs two patches": in Thumb the line of a pair is refused with 4
 pub pair-four : (image list : List ℕ) (base at e q first second : ℕ) → patchRefusal image list at ≡ 0 → setAt (pairs list) at ≡ Thumb e → patched image list base at (pairText q first second) ≡ (4, image)

@@ -62,7 +62,7 @@ table =
     ∷ refuse 4 lr (stretch 0 4) 0 0 "bl\t0x00000004" (prints 0 2 "bx\tlr" ∷ prints 2 2 "bx\tlr" ∷ [])
     -- a place at a stretch's end belongs to what follows
     ∷ patch (lr ++ word 0xEAFFFFFE) (stretch 0 4) 0 4 "add\tr1, r2, r3" (lr ++ word 0xE0821003) (prints 4 4 "add\tr1, r2, r3" ∷ [])
-    -- 8 and then 4: the end, odd in Thumb, in the middle of a word of ARM
+    -- 8 at the end, and 4 for lines that no halfword prints
     ∷ refuse 8 lr (stretch 0 4) 0 4 "bx\tlr" []
     ∷ refuse 4 lr (stretch 0 4) 0 2 "bx" (prints 2 2 "bx\tlr" ∷ [])
     ∷ refuse 4 lr (stretch 0 4) 0 2 "" (prints 2 2 "bx\tlr" ∷ [])
