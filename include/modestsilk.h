@@ -51,12 +51,12 @@
  * cannot be patched in: F800, which prints as F000 does.
  *
  * What the pointers must be: line points to capacity bytes (a print) or length
- * bytes (a read or a patch), halfwords to count halfwords, image and stretches to as many
- * bytes as their lengths say, and may be NULL where that number is 0; length, word,
- * first, second, index, offset and bytes point to memory for one value each, and
- * are never NULL. What a call writes to must not overlap anything else that
- * it is given. The functions keep no state, so any thread may call them at any
- * time.
+ * bytes (a read or a patch), halfwords to count halfwords, image and stretches to
+ * as many bytes as their lengths say, and may be NULL where that number is 0;
+ * length, word, first, second, index, offset and bytes point to memory for one
+ * value each, and are never NULL. What a call writes to must not overlap anything
+ * else that it is given, nor be used by another call at that time. The functions
+ * keep no state, so any thread may call them.
  *
  * Link with target/staticlib/libmodestsilk.a (rt staticlib modestsilk).
  */
