@@ -47,8 +47,9 @@
  *   8   the offset is no place for a word: as above, or it is the image's end,
  *   4   no word of the set at that place prints the line there,
  * in this order, and then the image keeps its bytes. A call pair takes two
- * patches, as its line is no word's. A word that is not the lowest of its line
- * cannot be patched in: F800, which prints as F000 does.
+ * patches, as its line is no halfword's; in ARM such a line is that of bl. A word
+ * that is not the lowest of its line cannot be patched in: F800, which prints as
+ * F000 does.
  *
  * What the pointers must be: line points to capacity bytes (a print) or length
  * bytes (a read or a patch), halfwords to count halfwords, image and stretches to
