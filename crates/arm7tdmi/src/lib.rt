@@ -15,7 +15,7 @@ pub mod memory;
 pub mod psr;
 
 // Which line is meant: the bench viewer's, or the data sheet's.
-#[derive(Drop)]
+#[derive(Clone, Copy)]
 pub enum Form {
     Bench,
     Sheet,
