@@ -5,22 +5,23 @@ use Rattle.arm.specs.Kinds.{arm_none}
 use Rattle.arm.specs.declared.ArmRow.{ArmRow}
 use borrow.Author.Rules.{rules}
 use Rattle.arm.proofs.arm_kind.Goals as goal
+use Rattle.arm.proofs.arm_kind.Goals.{then-i-place, else-i-place}
 
 pub loop-i-init : goal.loop-i-init
 loop-i-init c = (omega arith, search rules, refl)
 
 pub loop-i-preserved : goal.loop-i-preserved
 loop-i-preserved c =
-    let rows = c.args.t1 in
+    let rows = c.args.rows in
     let place = c.args.place in (
       omega arith,
       search rules,
-      ⊎_elim
-          (λ w. w.1 ∙ ap (λ (r : ArmRow). r.kind) (seen_there arm_none rows c.loop-i.i place _ _ (omega arith) w.0.taken refl))
-          (λ w. w.1 ∙ c.loop-i.invariant.2 ∙ ap (λ (r : ArmRow). r.kind) (seen_other arm_none rows c.loop-i.i place w.0.left))
-          c.if-i-place.branch,
+      elim c.if-i-place.branch [
+        then-i-place w ↦ w.kind-is ∙ ap (λ (r : ArmRow). r.kind) (seen_there arm_none rows c.loop-i.i place _ _ (omega arith) w.if-i-place.true refl)
+        | else-i-place w ↦ w.kind-is ∙ c.loop-i.invariant.2 ∙ ap (λ (r : ArmRow). r.kind) (seen_other arm_none rows c.loop-i.i place w.if-i-place.false)
+      ],
     )
 
 pub returns : goal.returns
 returns c =
-    c.loop-i.invariant.2 ∙ ap (λ (r : ArmRow). r.kind) (seen_all arm_none c.args.t1 c.loop-i.i c.args.place (omega arith))
+    c.loop-i.invariant.2 ∙ ap (λ (r : ArmRow). r.kind) (seen_all arm_none c.args.rows c.loop-i.i c.args.place (omega arith))

@@ -11,15 +11,15 @@ loop-i-init c = (omega arith, search rules, omega arith)
 
 pub returns-then-raw-row : goal.returns-then-raw-row
 returns-then-raw-row c =
-    let z = first_here (arm_met c.args.raw) c.args.t1 c.loop-i.i _ (omega arith) (eq-eqb _ _ c.if-raw-row.true) in
+    let z = first_here (arm_met c.args.raw) c.args.rows c.loop-i.i _ (omega arith) (eq-eqb _ _ c.if-raw-row.true) in
     omega arith
 
 pub loop-i-preserved : goal.loop-i-preserved
 loop-i-preserved c =
-    let z = first_on (arm_met c.args.raw) c.args.t1 c.loop-i.i _ (omega arith) (ne_eqb _ _ c.if-raw-row.false) in
+    let z = first_on (arm_met c.args.raw) c.args.rows c.loop-i.i _ (omega arith) (ne_eqb _ _ c.if-raw-row.false) in
     (omega arith, search rules, omega arith)
 
 pub returns : goal.returns
 returns c =
-    let z = first_out (arm_met c.args.raw) c.args.t1 c.loop-i.i (omega arith) in
+    let z = first_out (arm_met c.args.raw) c.args.rows c.loop-i.i (omega arith) in
     omega arith
