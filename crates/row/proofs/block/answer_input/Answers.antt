@@ -21,7 +21,7 @@ returns-then-e-input c =
     let f = c.index_of-e.ensures.0 in
     let n : length a.space.now ≡ 20 = c.put_text-arg-1.given.0.1 in
     let t : take c.index_of-e.result input ≡ input = take_all c.index_of-e.result input (omega arith) in
-    (block_held (omega arith) (rw (n, t) at (clipped c.put_text-n.ensures)), n)
+    record { answered = block_held (omega arith) (rw (n, t) at (clipped c.put_text-n.ensures)); space_len = n }
 
 pub returns : goal.returns
 returns c =
@@ -34,4 +34,4 @@ returns c =
     let h : find 10 input < length input = rw (← f) (omega arith) in
     let k = rw (n, f) at (clipped c.put_text-n.ensures) in
     let q : take (length input - (e + 1)) (drop (e + 1) input) ≡ drop (suc (find 10 input)) input = rw (← f, ← add-one e) (part_rest input (e + 1)) in
-    (block_rows h k c.answer_line-at.ensures (rw q at c.answer_rows.ensures), n)
+    record { answered = block_rows h k c.answer_line-at.ensures (rw q at c.answer_rows.ensures); space_len = n }

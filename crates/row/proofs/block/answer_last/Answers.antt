@@ -12,7 +12,7 @@ pub returns : goal.returns
 returns c =
     let a = c.args in
     let row = take a.held a.space.now in
-    let held = c.answer_line-arg-1.given.0 in
+    let held = c.answer_line-arg-1.given in
     let room = c.answer_line-arg-2-1.given.0.1 in
     let n = length-take a.held a.space.now in
     let x : length row ≤ 20 = omega arith in

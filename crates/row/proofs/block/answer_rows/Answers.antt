@@ -1,5 +1,6 @@
 -- `row::block::answer_rows` meets its contract. Invariant: the rows before `from` are answered. Assumes nothing.
 use Prim.Native.Nat.{◌≤◌}
+use mathlib.Core.List.{[]}
 use lib.ListN.{drop, drop_of_length-le, length, length-drop}
 use mathlib.Core.Path.{◌≡◌, refl}
 use native.Mathlib.Omega.{arith}
