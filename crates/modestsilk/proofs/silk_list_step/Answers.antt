@@ -1,0 +1,22 @@
+-- `modestsilk::silk_list_step` meets its contract. Assumes nothing.
+use Prim.Native.Nat.{◌≤◌}
+use native.Mathlib.Omega.{arith}
+use Rattle.steps.specs.Listed.{listed_bytes, listed_offset}
+use Rattle.steps.proofs.Answers.{step_small}
+use Rattle.modestsilk.proofs.silk_list_step.Goals as goal
+
+pub overflow_cast-offset : goal.overflow_cast-offset
+overflow_cast-offset c =
+    let a = c.args in
+    let h : listed_offset c.list_step-s.result ≤ a.place = rw c.list_step-s.ensures at (step_small a.image.now a.stretches.now a.base a.place a.line.now).0 in
+    record { fits = omega (arith, h, c.offset.ensures) }
+
+pub overflow_cast-bytes : goal.overflow_cast-bytes
+overflow_cast-bytes c =
+    let a = c.args in
+    let h : listed_bytes c.list_step-s.result ≤ 4 = rw c.list_step-s.ensures at (step_small a.image.now a.stretches.now a.base a.place a.line.now).1 in
+    record { fits = omega (arith, h, c.bytes.ensures) }
+
+pub returns : goal.returns
+returns c =
+    rw (c.list_step-s.ensures, c.offset.ensures, c.bytes.ensures, c.length.ensures, c.number.ensures)
