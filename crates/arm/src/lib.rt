@@ -16,7 +16,7 @@ use arm7tdmi::cond::ArmCond;
 use arm7tdmi::memory::{Addr, move_by};
 
 // The kinds of ARM words.
-#[derive(Drop)]
+#[derive(Clone, Copy)]
 pub enum ArmFormat {
     BranchExchange,
     BranchLink,
@@ -60,7 +60,7 @@ impl ArmFormat {
     }
 }
 
-#[derive(Drop)]
+#[derive(Clone, Copy)]
 pub struct ArmRow {
     pub mask: u32,
     pub value: u32,
@@ -147,6 +147,7 @@ const ARM_ROWS: [ArmRow; 15] = [
 ];
 
 // The rows of a form: the sheet's differ in one.
+#[tactic(auto, unfolding(crate::specs::Kinds::arm_rows))]
 fn arm_rows(form: Form) -> [ArmRow; 15]
     ensures { result ≡ arm_rows form }
 {
@@ -207,7 +208,7 @@ pub fn arm_format(form: Form, raw: u32) -> ArmFormat
 }
 
 // A decoded word.
-#[derive(Drop)]
+#[derive(Clone, Copy)]
 pub struct ArmInstruction {
     pub fmt: ArmFormat,
     pub raw: u32,
@@ -336,7 +337,7 @@ pub fn transfer_size(raw: u32) -> u32
     4
 }
 
-#[derive(Drop)]
+#[derive(Clone, Copy)]
 pub enum ArmHalfwordTransferType {
     Invalid,
     UnsignedHalfwords,

@@ -4,7 +4,7 @@ ghost use Rattle.arm7tdmi.specs.Alu.{alu_op_code, alu_number, is_setting_flags, 
 
 use crate::Form;
 
-#[derive(Drop)]
+#[derive(Clone, Copy)]
 pub enum AluOpCode {
     AND,
     EOR,
@@ -97,7 +97,7 @@ impl AluOpCode {
     }
 }
 
-#[derive(Drop)]
+#[derive(Clone, Copy)]
 pub enum BarrelShiftOpCode {
     LSL,
     LSR,
@@ -163,7 +163,7 @@ impl BarrelShiftOpCode {
 }
 
 // What the immediate amount of a shift means: so many places, or that the shift is RRX.
-#[derive(Drop)]
+#[derive(Clone, Copy)]
 pub enum Amount {
     Places(u32),
     Rrx,
@@ -181,21 +181,21 @@ impl Amount {
     }
 }
 
-#[derive(Drop)]
+#[derive(Clone, Copy)]
 pub enum ShiftRegisterBy {
     ByAmount(u32),
     ByRegister(u32),
 }
 
 // Whether a register is added to a base or subtracted from it; the Rust's `Option<bool>`.
-#[derive(Drop)]
+#[derive(Clone, Copy)]
 pub enum Sign {
     Added,
     Subtracted,
     Unsaid,
 }
 
-#[derive(Drop)]
+#[derive(Clone, Copy)]
 pub struct ShiftedRegister {
     pub reg: u32,
     pub shift_by: ShiftRegisterBy,
@@ -203,7 +203,7 @@ pub struct ShiftedRegister {
     pub added: Sign,
 }
 
-#[derive(Drop)]
+#[derive(Clone, Copy)]
 pub enum BarrelShifterValue {
     ImmediateValue(u32),
     RotatedImmediate(u32, u32),
@@ -211,7 +211,7 @@ pub enum BarrelShifterValue {
 }
 
 // What a value comes to where it is a rotated immediate.
-#[derive(Drop)]
+#[derive(Clone, Copy)]
 pub enum Decoded {
     Value(u32),
     Nothing,

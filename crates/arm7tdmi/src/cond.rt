@@ -7,7 +7,7 @@ ghost use Rattle.arm7tdmi.specs.Names.{cond_text, cond_named};
 use text::put::put_byte;
 use text::read::{pack, position};
 
-#[derive(Drop)]
+#[derive(Clone, Copy)]
 pub enum ArmCond {
     EQ,
     NE,

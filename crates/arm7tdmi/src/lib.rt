@@ -15,7 +15,7 @@ pub mod memory;
 pub mod psr;
 
 // Which line is meant: the bench viewer's, or the data sheet's.
-#[derive(Drop)]
+#[derive(Clone, Copy)]
 pub enum Form {
     Bench,
     Sheet,
@@ -55,6 +55,7 @@ fn numbered_reg(m: u64) -> u32
 }
 
 // The register of a packed name, or 16.
+#[tactic(auto, unfolding(common::specs::Lists::first, text::specs::Word::packed, crate::specs::Names::reg_names))]
 fn named_reg(n: u64) -> u32
     ensures { (result ≡ find n (map packed reg_names)) × (result ≤ 16) }
 {

@@ -2,7 +2,7 @@
 ghost use Rattle.std.specs.Prelude.{◌≡◌};
 ghost use Rattle.common.specs.Bits.{bit};
 
-#[derive(Drop)]
+#[derive(Clone, Copy)]
 pub struct RegPSR {
     pub raw: u32,
 }

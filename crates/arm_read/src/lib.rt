@@ -10,7 +10,7 @@ use arm7tdmi::Form;
 use text::read::equal;
 
 // The word that was read, or that no word prints the line.
-#[derive(Drop)]
+#[derive(Clone, Copy)]
 pub enum ArmRead {
     Word(u32),
     Nothing,

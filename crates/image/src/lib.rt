@@ -5,7 +5,7 @@ ghost use Rattle.image.specs.Stretches.{pair_at, pairs, end, left, first_left, s
 ghost use Rattle.image.specs.Refusal.{uneven, unit, wrong_image, wrong_pair, wrong_pairs, wrong_list, refusal, refusal_at};
 
 // The set at a place; for Thumb, with the end of its stretch.
-#[derive(Drop)]
+#[derive(Clone, Copy)]
 pub enum Set {
     Arm,
     Thumb(usize),

@@ -127,7 +127,7 @@ pub fn put_address(buf: &mut [u8], at: usize, form: Form, n: u32) -> usize
 }
 
 // What a print answers: a refusal's number with length 0, or 0 with the line's length.
-#[derive(Drop)]
+#[derive(Clone, Copy)]
 pub struct Printed {
     pub number: u32,
     pub length: usize,

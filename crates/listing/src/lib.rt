@@ -10,7 +10,7 @@ use steps::{Listed, step_at};
 
 // An image and its Thumb stretches, lent, with the address of the image's first byte; 6, 7 or 8 where they or the offset were refused, or 0; the place; and
 // the number of the first pair that may still tell of it.
-#[derive(Drop)]
+#[derive(Clone, Copy)]
 pub struct Listing<'a> {
     pub image: &'a [u8],
     pub stretches: &'a [u8],
@@ -21,7 +21,7 @@ pub struct Listing<'a> {
 }
 
 // What a step answers, and where the listing stands behind it.
-#[derive(Drop)]
+#[derive(Clone, Copy)]
 pub struct Stepped {
     pub listed: Listed,
     pub at: usize,

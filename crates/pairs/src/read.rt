@@ -9,7 +9,7 @@ use crate::print::put_pair;
 use text::read::{equal, read_hex};
 
 // The halves that were read, or that no pair prints the line.
-#[derive(Drop)]
+#[derive(Clone, Copy)]
 pub enum PairRead {
     Halves(u16, u16),
     Nothing,

@@ -5,7 +5,7 @@ ghost use Rattle.pairs.specs.Run.{lacks, unpaired};
 use thumb::{is_first_half, is_second_half};
 
 // The index of the earliest half that lacks its partner, or that all are paired.
-#[derive(Drop)]
+#[derive(Clone, Copy)]
 pub enum Pairing {
     Lacks(usize),
     AllPaired,

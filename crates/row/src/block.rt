@@ -15,7 +15,7 @@ pub const BLOCK: usize = 65536;
 pub const ROOM: usize = 6 * (HELD + BLOCK);
 
 // What a block leaves: how many bytes of a row are held, and the place behind the answers.
-#[derive(Drop)]
+#[derive(Clone, Copy)]
 pub struct Left {
     pub held: usize,
     pub at: usize,

@@ -16,14 +16,14 @@ use thumb_print::print_thumb;
 pub mod block;
 
 // A word of one of the two sets.
-#[derive(Drop)]
+#[derive(Clone, Copy)]
 enum Word {
     Arm(u32),
     Thumb(u16),
 }
 
 // The address and the number of a row's word, or that it is no row of the set.
-#[derive(Drop)]
+#[derive(Clone, Copy)]
 enum Fields {
     Both(u32, u32),
     Nothing,

@@ -15,7 +15,7 @@ use thumb::is_pair;
 use thumb_print::print_thumb;
 
 // What a step covers: an ARM word, a Thumb halfword, or the two halfwords of a call.
-#[derive(Drop)]
+#[derive(Clone, Copy)]
 pub enum Span {
     Word,
     Half,
@@ -23,7 +23,7 @@ pub enum Span {
 }
 
 // What a step answers.
-#[derive(Drop)]
+#[derive(Clone, Copy)]
 pub enum Listed {
     // offset, byte length, length of the line
     Line(usize, usize, usize),

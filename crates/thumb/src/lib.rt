@@ -20,7 +20,7 @@ use signed::{negative, signed_times};
 mod signed;
 
 // The kinds of Thumb words.
-#[derive(Drop)]
+#[derive(Clone, Copy)]
 pub enum ThumbFormat {
     MoveShiftedReg,
     AddSub,
@@ -74,7 +74,7 @@ impl ThumbFormat {
     }
 }
 
-#[derive(Drop)]
+#[derive(Clone, Copy)]
 pub struct ThumbRow {
     pub mask: u16,
     pub value: u16,
@@ -270,7 +270,7 @@ pub fn is_pair(first: u16, second: u16) -> bool
 }
 
 // The halfwords of a decoded word: one, or the two of a call.
-#[derive(Drop)]
+#[derive(Clone, Copy)]
 pub enum Halfwords {
     One(u16),
     Two(u16, u16),
@@ -309,7 +309,7 @@ impl Halfwords {
 }
 
 // A decoded word.
-#[derive(Drop)]
+#[derive(Clone, Copy)]
 pub struct ThumbInstruction {
     pub fmt: ThumbFormat,
     pub raw: Halfwords,
@@ -345,7 +345,7 @@ impl ThumbInstruction {
     }
 }
 
-#[derive(Drop)]
+#[derive(Clone, Copy)]
 pub enum OpFormat3 {
     MOV,
     CMP,
@@ -368,7 +368,7 @@ impl OpFormat3 {
     }
 }
 
-#[derive(Drop)]
+#[derive(Clone, Copy)]
 pub enum OpFormat5 {
     ADD,
     CMP,
@@ -391,7 +391,7 @@ impl OpFormat5 {
     }
 }
 
-#[derive(Drop)]
+#[derive(Clone, Copy)]
 pub enum ThumbAluOps {
     AND,
     EOR,

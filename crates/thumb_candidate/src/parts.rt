@@ -8,7 +8,7 @@ use arm7tdmi::read_reg;
 use text::read::{first_word, read_dec, read_hex};
 
 // The registers that words 1, 2 and 3 of a line name, or 16.
-#[derive(Drop)]
+#[derive(Clone, Copy)]
 pub struct Regs {
     pub first: u8,
     pub second: u8,

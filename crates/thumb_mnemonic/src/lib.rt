@@ -6,7 +6,7 @@ ghost use Rattle.thumb_mnemonic.specs.Rows.{codes, next_row, row_at};
 use thumb::ThumbFormat;
 
 // A word that has a mnemonic and no operands, its kind, and the next row of the same mnemonic, or 70.
-#[derive(Drop)]
+#[derive(Clone, Copy)]
 pub struct Row {
     pub bits: u16,
     pub kind: ThumbFormat,

@@ -16,7 +16,7 @@ use thumb_mnemonic::{Row, first_row, row_at};
 use thumb_print::print_thumb;
 
 // The word that was read, or that no word prints the line.
-#[derive(Drop)]
+#[derive(Clone, Copy)]
 pub enum ThumbRead {
     Word(u16),
     Nothing,
