@@ -1,4 +1,6 @@
 // ARM words: their kinds and their fields, as in the Rust's arm/mod.rs.
+#![tactic(auto)]
+
 ghost use Rattle.std.specs.Prelude.{◌≡◌, ◌<◌, cond as boolCond, slice_index_or};
 ghost use Rattle.common.specs.Lists.{first};
 ghost use Rattle.arm.specs.Kinds.{arm_met, arm_none, arm_rows, arm_first, arm_format, arm_number};

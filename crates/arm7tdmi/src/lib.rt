@@ -1,4 +1,6 @@
 // What words of both sets are made of: names, numbers, opcodes and operands. The files are named as in the Rust original.
+#![tactic(auto)]
+
 ghost use Rattle.std.specs.Prelude.{◌≡◌, ◌+◌, ◌*◌, ◌^◌, ◌≤◌, map};
 ghost use Rattle.common.specs.Lists.{find};
 ghost use Rattle.text.specs.Word.{packed};

@@ -1,4 +1,6 @@
 // The candidate of an ARM line: the word that its mnemonic, names, numbers and marks say.
+#![tactic(auto)]
+
 ghost use Rattle.std.specs.Prelude.{◌≡◌, ◌≤◌, ◌<◌, ◌^◌, ◌/◌, ◌%◌, get_or};
 ghost use Rattle.arm_candidate.specs.Candidate.{candidate, families};
 ghost use Rattle.arm_candidate.specs.CandidateSimple.{undefined_cand};

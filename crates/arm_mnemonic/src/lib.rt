@@ -1,5 +1,7 @@
 // The mnemonics, and what each says: as one number, the family in the top digit, the bits in the others. A `match`, since an array would be copied at each
 // call.
+#![tactic(auto)]
+
 ghost use Rattle.std.specs.Prelude.{map, ◌≡◌, ◌≤◌, ◌<◌, ◌/◌, ◌%◌, ◌^◌};
 ghost use Rattle.arm_mnemonic.specs.Heads.{stem_names};
 ghost use Rattle.arm_mnemonic.specs.Stems.{head_number};

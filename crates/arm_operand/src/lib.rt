@@ -1,4 +1,6 @@
 // Operands of ARM lines that are more than a field.
+#![tactic(auto)]
+
 ghost use Rattle.std.specs.Prelude.{◌≡◌};
 ghost use Rattle.text.specs.Wrote.{Wrote};
 ghost use Rattle.arm_operand.specs.Operand.{shift_text, is_lsl0, places_text, amount_text, by_amount, by_register, shift_by, shifted_register, immediate, decoded_text, fmt_operand2, bench_offset, magnitude, sheet_offset, immediate_offset, sign_text, signed_register, offset_text, indexed, value_comment, comment, fmt_rn_offset, rd_text, flag_text, flags, flags_comment, added_register};

@@ -1,4 +1,6 @@
 // Printing ARM words: the refusals, and the line into a lent buffer.
+#![tactic(auto)]
+
 ghost use Rattle.std.specs.Prelude.{◌≡◌};
 ghost use Rattle.lines.specs.Answer.{line, printed};
 ghost use Rattle.arm_disass.specs.Line.{line_of};

@@ -1,4 +1,6 @@
 // Reading an ARM line back: the lowest word that prints it. A candidate is taken from the line's words and marks, printed, and compared with the line.
+#![tactic(auto)]
+
 ghost use Rattle.std.specs.Prelude.{◌≡◌, ◌<◌};
 ghost use Rattle.arm_print.specs.Print.{arm_line};
 ghost use Rattle.reading.specs.Read.{is_line};

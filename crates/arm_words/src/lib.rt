@@ -1,1 +1,2 @@
 // Laws of ARM words: how each kind is put together from fields. There is no code here.
+#![tactic(auto)]

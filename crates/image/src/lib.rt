@@ -1,4 +1,6 @@
 // An image of words: its bytes, its Thumb stretches, which set holds at a place, and what is refused.
+#![tactic(auto)]
+
 ghost use Rattle.std.specs.Prelude.{◌≡◌, ◌+◌, ◌*◌, ◌/◌, ◌^◌, ◌<◌, ◌≤◌, length};
 ghost use Rattle.image.specs.Bytes.{half, word};
 ghost use Rattle.image.specs.Stretches.{pair_at, pairs, end, left, first_left, set_at};

@@ -1,4 +1,6 @@
 // What the lines of both sets are made of: names, marks and register lists by a word's fields; and how a line is answered.
+#![tactic(auto)]
+
 ghost use Rattle.std.specs.Prelude.{cond, [], ◌∷◌, ◌≡◌, ◌%◌, ◌^◌, ◌≤◌};
 ghost use Rattle.text.specs.Text.{text};
 ghost use Rattle.text.specs.Wrote.{Wrote, WroteBoth};

@@ -1,4 +1,6 @@
 // The listing of an image, step by step: a struct that holds the lent image and the place that the listing has come to.
+#![tactic(auto)]
+
 ghost use Rattle.std.specs.Prelude.{◌≡◌};
 ghost use Rattle.image.specs.Refusal.{refusal_at};
 ghost use Rattle.image.specs.Stretches.{first_left, left};

@@ -1,4 +1,6 @@
 // The operations for callers in C: thin calls of the proved ones. Each has the contract of the operation that it calls.
+#![tactic(auto)]
+
 ghost use Rattle.std.specs.Prelude.{◌≡◌};
 ghost use Rattle.lines.specs.Answer.{printed};
 ghost use Rattle.arm.specs.Kinds.{arm_format, arm_number};

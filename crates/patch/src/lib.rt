@@ -1,4 +1,6 @@
 // A patch: one word of a lent image, read from its sheet line and overwritten.
+#![tactic(auto)]
+
 ghost use Rattle.std.specs.Prelude.{◌≡◌, ◌+◌, ◌≤◌, length};
 ghost use Rattle.image.specs.Refusal.{unit};
 ghost use Rattle.patch.specs.Patch.{with_number, patch_refusal, patched_in, patched};

@@ -1,4 +1,6 @@
 // What the row program answers: for a row, and (block) for a block of its input.
+#![tactic(auto)]
+
 ghost use Rattle.std.specs.Prelude.{◌++◌, ◌≡◌, ◌+◌, ◌<◌, leb};
 ghost use Rattle.text.specs.Text.{text};
 ghost use Rattle.text.specs.Digits.{dec};

@@ -1,4 +1,6 @@
 // The steps of a listing: what stands at a place of an image, and its sheet line into a lent buffer.
+#![tactic(auto)]
+
 ghost use Rattle.std.specs.Prelude.{◌≡◌, ◌+◌, ◌≤◌, length, nat_le};
 ghost use Rattle.arm7tdmi.specs.Signed.{moved};
 ghost use Rattle.lines.specs.Answer.{printed};

@@ -1,5 +1,4 @@
 -- `text::put::put_dec` meets its contract: what it writes is what its calls write, one after the other. Assumes nothing.
-use Rattle.text.proofs.Wrote.{kept}
 use Rattle.text.specs.Digits.{dec}
 use Rattle.text.proofs.put.put_dec.Goals as goal
 

@@ -1,15 +1,13 @@
 -- `text::put::put_digits` meets its contract. Invariant: the digits are those that are left, and then those that the scratch holds from i to k. Assumes nothing.
-use Prim.Native.Nat.{ℕ, ◌-◌, ◌<◌, ◌^◌, ◌≤◌}
-use lib.ListN.{drop, length, length-set, take}
+use Prim.Native.Nat.{ℕ, ◌-◌}
+use lib.ListN.{length-set}
 use mathlib.Core.Bool.{cond}
-use mathlib.Core.List.{◌++◌, append-nil}
+use mathlib.Core.List.{append-nil}
 use mathlib.Core.Path.{◌∙◌, ◌≡◌, refl, sym}
 use native.Mathlib.Nat.{div-le_self}
 use native.Mathlib.Omega.{arith}
-use Rattle.common.proofs.Tests.{at}
 use Rattle.text.proofs.Digits.{scratch_done, scratch_none, scratch_step}
 use Rattle.text.proofs.Wrote.{kept, same_as}
-use Rattle.text.specs.Digits.{digits}
 use borrow.Author.Rules.{rules}
 use Rattle.text.proofs.put.put_digits.Goals as goal
 

@@ -1,5 +1,4 @@
 -- `text::put::put_hex` meets its contract: what it writes is what its calls write, one after the other. Assumes nothing.
-use Rattle.text.proofs.Wrote.{kept}
 use Rattle.text.specs.Digits.{hex}
 use Rattle.text.proofs.put.put_hex.Goals as goal
 

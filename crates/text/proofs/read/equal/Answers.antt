@@ -1,10 +1,8 @@
 -- `text::read::equal` meets its contract. Invariant: the texts are equal where they are from byte i on. Assumes nothing.
-use Prim.Native.Nat.{◌-◌, ◌≤◌}
-use lib.ListN.{drop, length}
-use mathlib.Core.Path.{◌∙◌, ◌≡◌, ap, refl, sym}
+use lib.ListN.{length}
+use mathlib.Core.Path.{◌∙◌, ap, refl, sym}
 use native.Mathlib.Omega.{arith}
 use Rattle.common.proofs.Lists.{other, same_break, same_out, same_step}
-use Rattle.common.specs.Lists.{same}
 use Rattle.text.proofs.read.equal.Goals as goal
 
 pub returns-then-a-b : goal.returns-then-a-b

@@ -1,10 +1,6 @@
 -- `text::read::gap_length` meets its contract. Invariant: the first i bytes are of no word. Assumes nothing.
-use Prim.Native.Nat.{◌+◌, ◌-◌, ◌≤◌}
-use lib.ListN.{drop, length}
-use mathlib.Core.Path.{◌≡◌}
 use native.Mathlib.Omega.{arith}
 use Rattle.common.proofs.Lists.{first_here, first_on, first_out}
-use Rattle.common.specs.Lists.{first}
 use Rattle.text.specs.Word.{is_word}
 use Rattle.text.proofs.read.gap_length.Goals as goal
 

@@ -2,11 +2,8 @@
 use Prim.Native.Nat.{◌+◌, ◌-◌, ◌≤◌}
 use lib.ListN.{drop, length}
 use mathlib.Core.Path.{◌≡◌}
-use native.Mathlib.Omega.{arith}
-use Rattle.common.proofs.Lists.{first_here, first_on, first_out}
 use Rattle.common.specs.Lists.{first}
 use Rattle.text.specs.Word.{is_word}
-
 use Rattle.text.proofs.read.gap_length.Given as goal
 
 abbrev pub invariant-loop-i : goal.invariant-loop-i

@@ -1,12 +1,8 @@
 -- `text::read::index_of` meets its contract. Invariant: the byte is none of the first i. Assumes nothing.
-use Prim.Native.Nat.{◌+◌, ◌-◌, ◌≤◌}
 use borrow.Author.Tests.{eq-eqb, ne_eqb}
 use lib.Dec.{eqb}
-use lib.ListN.{drop, length}
-use mathlib.Core.Path.{◌≡◌}
 use native.Mathlib.Omega.{arith}
 use Rattle.common.proofs.Lists.{first_here, first_on, first_out}
-use Rattle.common.specs.Lists.{find}
 use Rattle.text.proofs.read.index_of.Goals as goal
 
 pub returns-then-s-i : goal.returns-then-s-i

@@ -1,7 +1,6 @@
 -- `text::read::is_word` meets its contract. Assumes nothing.
 use borrow.Author.Tests.{le-ltb, lt-ltb}
 use native.Mathlib.Omega.{arith}
-use Rattle.common.proofs.Tests.{at}
 use Rattle.text.proofs.Word.{word_byte}
 use Rattle.text.proofs.read.is_word.Goals as goal
 

@@ -1,11 +1,7 @@
 -- `text::read::number_in` meets its contract. Invariant: the value is that of the bytes from i on behind v. Assumes nothing.
-use Prim.Native.Nat.{◌-◌, ◌<◌, ◌^◌, ◌≤◌}
-use lib.ListN.{drop, length}
-use mathlib.Core.Path.{◌∙◌, ◌≡◌, refl, sym}
+use mathlib.Core.Path.{◌∙◌, refl, sym}
 use native.Mathlib.Omega.{arith}
-use Rattle.common.proofs.Tests.{at}
 use Rattle.text.proofs.Digits.{times_small, value_out, value_step}
-use Rattle.text.specs.Digits.{value, value_from}
 use Rattle.text.proofs.read.number_in.Goals as goal
 
 pub loop-i-init : goal.loop-i-init
@@ -19,7 +15,6 @@ overflow_add-v c = let m = times_small c.loop-i.v c.args.base (omega arith) (ome
 
 pub loop-i-preserved : goal.loop-i-preserved
 loop-i-preserved c =
-    
     let a = c.args in (
       omega arith,
       omega arith,

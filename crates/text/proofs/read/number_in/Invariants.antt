@@ -1,12 +1,8 @@
 -- `text::read::number_in` meets its contract. Invariant: the value is that of the bytes from i on behind v. Assumes nothing.
 use Prim.Native.Nat.{◌-◌, ◌<◌, ◌^◌, ◌≤◌}
 use lib.ListN.{drop, length}
-use mathlib.Core.Path.{◌∙◌, ◌≡◌, refl, sym}
-use native.Mathlib.Omega.{arith}
-use Rattle.common.proofs.Tests.{at}
-use Rattle.text.proofs.Digits.{times_small, value_out, value_step}
+use mathlib.Core.Path.{◌≡◌}
 use Rattle.text.specs.Digits.{value, value_from}
-
 use Rattle.text.proofs.read.number_in.Given as goal
 
 abbrev pub invariant-loop-i : goal.invariant-loop-i

@@ -1,12 +1,10 @@
 -- `text::read::pack` meets its contract. Invariant: v is the number of the bytes from i on, and none of them is 0. Assumes nothing.
-use Prim.Native.Nat.{◌+◌, ◌-◌, ◌≤◌}
+use Prim.Native.Nat.{◌+◌, ◌-◌}
 use borrow.Author.Tests.{ne_eqb}
-use lib.ListN.{drop, get_or, length}
+use lib.ListN.{get_or}
 use lib.Seq.{drop-length}
-use mathlib.Core.Bool.{true}
 use mathlib.Core.Path.{ap, sym, ◌∙◌, ◌≡◌}
 use native.Mathlib.Omega.{arith}
-use Rattle.common.proofs.Tests.{at}
 use Rattle.text.proofs.Packed.{number_small, number_step, packed_long, packed_short, packed_zero, some, some_step}
 use Rattle.text.specs.Word.{all, number}
 use Rattle.text.proofs.read.pack.Goals as goal

@@ -1,15 +1,10 @@
 -- `text::read::pack` meets its contract. Invariant: v is the number of the bytes from i on, and none of them is 0. Assumes nothing.
-use Prim.Native.Nat.{◌+◌, ◌-◌, ◌≤◌}
-use borrow.Author.Tests.{ne_eqb}
-use lib.ListN.{drop, get_or, length}
-use lib.Seq.{drop-length}
+use Prim.Native.Nat.{◌≤◌}
+use lib.ListN.{drop, length}
 use mathlib.Core.Bool.{true}
-use mathlib.Core.Path.{ap, sym, ◌∙◌, ◌≡◌}
-use native.Mathlib.Omega.{arith}
-use Rattle.common.proofs.Tests.{at}
-use Rattle.text.proofs.Packed.{number_small, number_step, packed_long, packed_short, packed_zero, some, some_step}
+use mathlib.Core.Path.{◌≡◌}
+use Rattle.text.proofs.Packed.{some}
 use Rattle.text.specs.Word.{all, number}
-
 use Rattle.text.proofs.read.pack.Given as goal
 
 abbrev pub invariant-loop-i : goal.invariant-loop-i

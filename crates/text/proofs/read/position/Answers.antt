@@ -1,12 +1,8 @@
 -- `text::read::position` meets its contract. Invariant: the number is none of the first i. Assumes nothing.
-use Prim.Native.Nat.{◌+◌, ◌-◌, ◌≤◌}
 use borrow.Author.Tests.{eq-eqb, ne_eqb}
 use lib.Dec.{eqb}
-use lib.ListN.{drop, length}
-use mathlib.Core.Path.{◌≡◌}
 use native.Mathlib.Omega.{arith}
 use Rattle.common.proofs.Lists.{first_here, first_on, first_out}
-use Rattle.common.specs.Lists.{find}
 use Rattle.text.proofs.read.position.Goals as goal
 
 pub returns-then-xs-i : goal.returns-then-xs-i

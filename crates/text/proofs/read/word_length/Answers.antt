@@ -1,10 +1,6 @@
 -- `text::read::word_length` meets its contract. Invariant: the first i bytes are of a word. Assumes nothing.
-use Prim.Native.Nat.{◌+◌, ◌-◌, ◌≤◌}
-use lib.ListN.{drop, length}
-use mathlib.Core.Path.{◌≡◌}
 use native.Mathlib.Omega.{arith}
 use Rattle.common.proofs.Lists.{first_here, first_on, first_out}
-use Rattle.common.specs.Lists.{first}
 use Rattle.text.specs.Word.{is_gap}
 use Rattle.text.proofs.read.word_length.Goals as goal
 
