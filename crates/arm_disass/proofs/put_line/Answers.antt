@@ -2,8 +2,6 @@
 use Rattle.arm_disass.specs.Line.{line_of}
 use Rattle.arm_disass.proofs.put_line.Goals as goal
 
--- SPEC ARGS 61 NEEDS 60
-
 pub returns-in-BranchExchange : goal.returns-in-BranchExchange
 unfolding line_of
 returns-in-BranchExchange c = rw c.in-BranchExchange.is c.fmt_bx.ensures

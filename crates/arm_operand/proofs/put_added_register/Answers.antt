@@ -3,8 +3,6 @@ use Rattle.arm_operand.specs.Operand.{added_register}
 use Rattle.text.proofs.Wrote.{◌⨾◌, nothing, same_as}
 use Rattle.arm_operand.proofs.put_added_register.Goals as goal
 
--- SPEC ARGS 7 NEEDS 6
-
 pub returns-then-bit : goal.returns-then-bit
 unfolding added_register
 returns-then-bit c =

@@ -2,8 +2,6 @@
 use Rattle.arm_operand.specs.Operand.{amount_text}
 use Rattle.arm_operand.proofs.put_amount.Goals as goal
 
--- SPEC ARGS 9 NEEDS 8
-
 pub returns-in-Places : goal.returns-in-Places
 unfolding amount_text
 returns-in-Places c = rw c.in-Places.is c.put_places.ensures

@@ -3,8 +3,6 @@ use Rattle.arm_operand.specs.Operand.{by_register}
 use Rattle.text.proofs.Wrote.{◌⨾◌}
 use Rattle.arm_operand.proofs.put_by_register.Goals as goal
 
--- SPEC ARGS 7 NEEDS 6
-
 pub returns : goal.returns
 unfolding by_register
 returns c =

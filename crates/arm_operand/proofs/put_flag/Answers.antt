@@ -2,8 +2,6 @@
 use Rattle.arm_operand.specs.Operand.{flag_text}
 use Rattle.arm_operand.proofs.put_flag.Goals as goal
 
--- SPEC ARGS 5 NEEDS 3
-
 pub returns : goal.returns
 unfolding flag_text
 returns c = c.put_either.ensures

@@ -3,8 +3,6 @@ use Rattle.arm_operand.specs.Operand.{flags}
 use Rattle.text.proofs.Wrote.{◌⨾◌}
 use Rattle.arm_operand.proofs.put_flags.Goals as goal
 
--- SPEC ARGS 14 NEEDS 10
-
 pub returns : goal.returns
 unfolding flags
 returns c =

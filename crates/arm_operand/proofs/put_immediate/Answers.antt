@@ -3,8 +3,6 @@ use Rattle.arm_operand.specs.Operand.{immediate}
 use Rattle.text.proofs.Wrote.{◌⨾◌}
 use Rattle.arm_operand.proofs.put_immediate.Goals as goal
 
--- SPEC ARGS 7 NEEDS 6
-
 pub returns : goal.returns
 unfolding immediate
 returns c =

@@ -3,8 +3,6 @@ use Rattle.arm_operand.specs.Operand.{indexed}
 use Rattle.text.proofs.Wrote.{◌⨾◌, same_as}
 use Rattle.arm_operand.proofs.put_indexed.Goals as goal
 
--- SPEC ARGS 13 NEEDS 11
-
 pub returns-then-bit : goal.returns-then-bit
 unfolding indexed
 returns-then-bit c =

@@ -3,8 +3,6 @@ use Rattle.arm_operand.specs.Operand.{places_text}
 use Rattle.text.proofs.Wrote.{◌⨾◌}
 use Rattle.arm_operand.proofs.put_places.Goals as goal
 
--- SPEC ARGS 8 NEEDS 6
-
 pub returns : goal.returns
 unfolding places_text
 returns c =

@@ -4,8 +4,6 @@ use Rattle.common.proofs.Tests.{at}
 use Rattle.text.proofs.Wrote.{◌⨾◌, same_as}
 use Rattle.arm_operand.proofs.put_sheet_offset.Goals as goal
 
--- SPEC ARGS 10 NEEDS 9
-
 pub returns : goal.returns
 unfolding sheet_offset
 returns c =

@@ -2,8 +2,6 @@
 use Rattle.arm_operand.specs.Operand.{shift_text}
 use Rattle.arm_operand.proofs.put_shift.Goals as goal
 
--- SPEC ARGS 20 NEEDS 16
-
 pub returns-in-LSL : goal.returns-in-LSL
 unfolding shift_text
 returns-in-LSL c = rw c.in-LSL.is c.put_text.ensures

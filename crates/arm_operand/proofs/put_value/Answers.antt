@@ -4,8 +4,6 @@ use Rattle.arm_operand.specs.Operand.{value_comment}
 use Rattle.text.proofs.Wrote.{◌⨾◌, same_as}
 use Rattle.arm_operand.proofs.put_value.Goals as goal
 
--- SPEC ARGS 10 NEEDS 9
-
 pub returns-then-bit_range-eq15 : goal.returns-then-bit_range-eq15
 unfolding value_comment
 returns-then-bit_range-eq15 c =

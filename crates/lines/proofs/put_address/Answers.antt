@@ -4,8 +4,6 @@ use Rattle.text.proofs.Wrote.{◌⨾◌, kept}
 use Rattle.text.specs.Digits.{prefixed}
 use Rattle.lines.proofs.put_address.Goals as goal
 
--- SPEC ARGS 10 NEEDS 9
-
 pub returns-in-Bench : goal.returns-in-Bench
 unfolding address
 returns-in-Bench c = rw c.in-Bench.is c.put_0x.ensures

@@ -2,8 +2,6 @@
 use Rattle.text.proofs.Wrote.{◌⨾◌, kept}
 use Rattle.lines.proofs.put_reg_comma.Goals as goal
 
--- SPEC ARGS 5 NEEDS 4
-
 pub returns : goal.returns
 returns c =
     record { whole = c.put_reg_at-at.ensures ⨾ c.put_text.ensures }

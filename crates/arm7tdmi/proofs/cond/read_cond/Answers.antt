@@ -5,8 +5,6 @@ use Rattle.arm7tdmi.specs.Names.{cond_names}
 use Rattle.text.specs.Word.{packed}
 use Rattle.arm7tdmi.proofs.cond.read_cond.Goals as goal
 
--- SPEC ARGS 5 NEEDS 4
-
 pub returns : goal.returns
 unfolding cond_names packed
 returns c =

@@ -3,8 +3,6 @@ use Rattle.arm_disass.specs.Line.{fmt_bx}
 use Rattle.text.proofs.Wrote.{◌⨾◌}
 use Rattle.arm_disass.proofs.disass.fmt_bx.Goals as goal
 
--- SPEC ARGS 7 NEEDS 6
-
 pub returns : goal.returns
 unfolding fmt_bx
 returns c =

@@ -3,8 +3,6 @@ use Rattle.text.proofs.Wrote.{◌⨾◌, ◌⨾⨾◌}
 use Rattle.arm_disass.specs.Line.{fmt_halfword}
 use Rattle.arm_disass.proofs.disass.fmt_halfword.Goals as goal
 
--- SPEC ARGS 10 NEEDS 8
-
 pub returns : goal.returns
 unfolding fmt_halfword
 returns c =

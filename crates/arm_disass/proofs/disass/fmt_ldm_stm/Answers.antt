@@ -7,19 +7,10 @@ use Rattle.text.proofs.Wrote.{◌⨾◌, ◌⨾⨾◌}
 use Rattle.arm_disass.specs.Line.{fmt_ldm_stm}
 use Rattle.arm_disass.proofs.disass.fmt_ldm_stm.Goals as goal
 
--- where the list begins, and the word
-abbrev start : tie.After-put-registers → tie.After-put-text
-start c = c.before.before.before.before
-
-abbrev word : tie.After-put-text → ℕ
-word s = s.before.before.before.before.before.before.before.before.before.before.before.before.before.before.before.before.before.before.before.before.before.before.before.before.before.before.before.before.before.before.before.before.before.before.args.raw
-
 -- before each name of the list the position stands directly behind the last byte written
-pub before-name : (c : tie.After-put-registers) → let s = start c in BeforeEach s.put-text.last.0 s.put-text.result (names (word s) 16) c.put-registers.new.0 c.put-registers.result
+pub before_name : (c : goal.After-slice_known-11-1) → BeforeEach c.put_text-at.new.buf c.put_text-at.result (names c.args.raw 16) c.put_registers-at.new.buf c.put_registers-at.result
 unfolding registers
-before-name c = before_each c.put-registers.ensures
-
--- SPEC ARGS 19 NEEDS 12
+before_name c = before_each c.put_registers-at.ensures
 
 pub returns : goal.returns
 unfolding fmt_ldm_stm

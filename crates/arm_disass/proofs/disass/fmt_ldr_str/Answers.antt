@@ -3,8 +3,6 @@ use Rattle.text.proofs.Wrote.{◌⨾◌, ◌⨾⨾◌}
 use Rattle.arm_disass.specs.Line.{fmt_ldr_str}
 use Rattle.arm_disass.proofs.disass.fmt_ldr_str.Goals as goal
 
--- SPEC ARGS 11 NEEDS 9
-
 pub returns : goal.returns
 unfolding fmt_ldr_str
 returns c =

@@ -3,8 +3,6 @@ use Rattle.text.proofs.Wrote.{◌⨾◌, ◌⨾⨾◌}
 use Rattle.arm_disass.specs.Line.{fmt_move}
 use Rattle.arm_disass.proofs.disass.fmt_move.Goals as goal
 
--- SPEC ARGS 8 NEEDS 7
-
 pub returns : goal.returns
 unfolding fmt_move
 returns c =

@@ -3,8 +3,6 @@ use Rattle.text.proofs.Wrote.{◌⨾◌, ◌⨾⨾◌}
 use Rattle.arm_disass.specs.Line.{fmt_mrs}
 use Rattle.arm_disass.proofs.disass.fmt_mrs.Goals as goal
 
--- SPEC ARGS 9 NEEDS 6
-
 pub returns : goal.returns
 unfolding fmt_mrs
 returns c =

@@ -3,8 +3,6 @@ use Rattle.text.proofs.Wrote.{◌⨾◌, ◌⨾⨾◌}
 use Rattle.arm_disass.specs.Line.{fmt_msr}
 use Rattle.arm_disass.proofs.disass.fmt_msr.Goals as goal
 
--- SPEC ARGS 12 NEEDS 8
-
 pub returns : goal.returns
 unfolding fmt_msr
 returns c =

@@ -3,8 +3,6 @@ use Rattle.text.proofs.Wrote.{◌⨾◌, ◌⨾⨾◌}
 use Rattle.arm_disass.specs.Line.{fmt_msr_flags}
 use Rattle.arm_disass.proofs.disass.fmt_msr_flags.Goals as goal
 
--- SPEC ARGS 14 NEEDS 10
-
 pub returns : goal.returns
 unfolding fmt_msr_flags
 returns c =

@@ -3,8 +3,6 @@ use Rattle.text.proofs.Wrote.{◌⨾◌, ◌⨾⨾◌}
 use Rattle.arm_disass.specs.Line.{fmt_mul_mla}
 use Rattle.arm_disass.proofs.disass.fmt_mul_mla.Goals as goal
 
--- SPEC ARGS 11 NEEDS 9
-
 pub returns : goal.returns
 unfolding fmt_mul_mla
 returns c =

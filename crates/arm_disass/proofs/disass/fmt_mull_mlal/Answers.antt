@@ -3,8 +3,6 @@ use Rattle.text.proofs.Wrote.{◌⨾◌, ◌⨾⨾◌}
 use Rattle.arm_disass.specs.Line.{fmt_mull_mlal}
 use Rattle.arm_disass.proofs.disass.fmt_mull_mlal.Goals as goal
 
--- SPEC ARGS 14 NEEDS 10
-
 pub returns : goal.returns
 unfolding fmt_mull_mlal
 returns c =

@@ -3,8 +3,6 @@ use Rattle.arm_disass.specs.Line.{fmt_swi}
 use Rattle.text.proofs.Wrote.{◌⨾◌}
 use Rattle.arm_disass.proofs.disass.fmt_swi.Goals as goal
 
--- SPEC ARGS 9 NEEDS 7
-
 pub returns : goal.returns
 unfolding fmt_swi
 returns c =

@@ -3,8 +3,6 @@ use Rattle.text.proofs.Wrote.{◌⨾◌, ◌⨾⨾◌}
 use Rattle.arm_disass.specs.Line.{fmt_swp}
 use Rattle.arm_disass.proofs.disass.fmt_swp.Goals as goal
 
--- SPEC ARGS 12 NEEDS 10
-
 pub returns : goal.returns
 unfolding fmt_swp
 returns c =

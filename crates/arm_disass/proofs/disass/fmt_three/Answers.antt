@@ -3,8 +3,6 @@ use Rattle.text.proofs.Wrote.{◌⨾◌, ◌⨾⨾◌}
 use Rattle.arm_disass.specs.Line.{fmt_three}
 use Rattle.arm_disass.proofs.disass.fmt_three.Goals as goal
 
--- SPEC ARGS 9 NEEDS 8
-
 pub returns : goal.returns
 unfolding fmt_three
 returns c =

@@ -3,8 +3,6 @@ use Rattle.arm_disass.specs.Line.{halfword_text}
 use Rattle.text.proofs.Wrote.{nothing}
 use Rattle.arm_disass.proofs.disass.put_halfword_type.Goals as goal
 
--- SPEC ARGS 17 NEEDS 14
-
 pub returns-in-Invalid : goal.returns-in-Invalid
 unfolding halfword_text
 returns-in-Invalid c = rw c.in-Invalid.is (nothing)

@@ -5,8 +5,6 @@ use Rattle.arm_disass.proofs.Opcodes.{op_part, op_small}
 use Rattle.text.proofs.Wrote.{same_as}
 use Rattle.arm_disass.proofs.disass.put_opcode.Goals as goal
 
--- SPEC ARGS 8 NEEDS 7
-
 pub overflow_mul-from : goal.overflow_mul-from
 overflow_mul-from c = rw c.number-n.ensures (let s = op_small c.args.op in omega (s, arith))
 
