@@ -14,7 +14,7 @@ TOKEN = re.compile(r'[^%s]+' % BREAKS)
 STRING = re.compile(r'b?"(?:[^"\\]|\\.)*"')
 DECLARED = re.compile(r"^\s*(?:(?:pattern|unfoldable|abbrev|axiom|pub|record|data|module|mod|use)\s+)*([^%s]+)(?:\s*[{(].*?[)}])*\s+:(?=\s)" % BREAKS)
 # A lemma that would have its definition's name ends in `_lem`; these the port script had turned already, or fall on a name that it had turned.
-CHOSEN = {'block_in': 'block_in_lem', 'is-line': 'is_line_lem', 'line-of': 'line_of_lem', 'read-arm': 'read_arm_lem'}
+CHOSEN = {'Stepped-is': 'SteppedIs', 'block_in': 'block_in_lem', 'is-line': 'is_line_lem', 'line-of': 'line_of_lem', 'read-arm': 'read_arm_lem'}
 
 
 def antt_files():

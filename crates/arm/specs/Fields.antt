@@ -9,7 +9,6 @@ use Rattle.arm7tdmi.specs.declared.alu.ShiftRegisterBy.{ShiftRegisterBy}
 use Rattle.arm7tdmi.specs.declared.alu.ShiftRegisterBy.TheVariants as By
 use Rattle.arm7tdmi.specs.declared.alu.Sign.{Sign}
 use Rattle.arm7tdmi.specs.declared.alu.Sign.TheVariants as S
-use Rattle.arm7tdmi.specs.declared.alu.ShiftedRegister.{ShiftedRegister}
 use Rattle.arm7tdmi.specs.declared.alu.BarrelShifterValue.{BarrelShifterValue}
 use Rattle.arm7tdmi.specs.declared.alu.BarrelShifterValue.TheVariants as Value
 use Rattle.arm.specs.declared.ArmHalfwordTransferType.{ArmHalfwordTransferType}

@@ -2,7 +2,6 @@
 use Rattle.std.proofs.Common.{◌≡◌, ℕ, ◌+◌, ◌-◌, ◌*◌, ◌/◌, ◌%◌, ◌^◌, ◌<◌, ◌≤◌, sym, ap, ◌∙◌, add-zero, mul-le-mul_right, mod-lt, mod-eq_of_lt, div-lt_iff_lt-mul, div-add-mod', arith, pow_pos, pow-add}
 use lib.Pow.{mod-pow-add, shl-shr}
 use native.Mathlib.Nat.{add-mul-div_right, add-mul-mod_self_right, div-eq_of_lt, mul-mod_left}
-use Rattle.common.proofs.Tests.{at}
 
 -- of any p and q: v, cut at p and turned, is cut at q
 module _ (p q v : ℕ) (hp : 0 < p) (hq : 0 < q) (h : v < q * p) where

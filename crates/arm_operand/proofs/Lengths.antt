@@ -1,5 +1,5 @@
 -- How long the operands of a line are. Assumes nothing.
-use Rattle.std.proofs.Common.{ℕ, ◌-◌, eqb, refl, arith}
+use Rattle.std.proofs.Common.{ℕ, eqb, refl, arith}
 use Rattle.lines.proofs.Address.{address_within}
 use Rattle.lines.proofs.Lengths.{if_set_within, reg_at_within, either_within}
 use Rattle.arm7tdmi.specs.Alu.{amount_of, decode_rotated_immediate}

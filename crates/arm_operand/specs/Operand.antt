@@ -1,6 +1,6 @@
 -- The operands of ARM lines that are more than a field, by the Rust's arm/disass.rs, with its formats beside them. The form stands where the sheet line
 -- differs: S1 and S4 of document 01, S9 where an address is shown, and S10 where an amount is. Assumes nothing.
-use Rattle.std.specs.Prelude.{ℕ, ◌-◌, ◌%◌, ◌^◌, Bool, true, false, cond, List, [], ◌++◌, ◌==◌}
+use Rattle.std.specs.Prelude.{ℕ, ◌-◌, ◌%◌, ◌^◌, Bool, false, cond, List, [], ◌++◌, ◌==◌}
 use Rattle.common.specs.Bits.{bit, bit_range}
 use Rattle.text.specs.Text.{text}
 use Rattle.text.specs.Digits.{dec, prefixed}

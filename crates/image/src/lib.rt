@@ -177,6 +177,7 @@ fn wrong_list(image: &[u8], stretches: &[u8]) -> bool
 }
 
 // 6 or 7 where an image or its stretches are refused, or 0.
+#[tactic(auto, unfolding(crate::specs::Refusal::refusal))]
 pub fn refusal(image: &[u8], stretches: &[u8]) -> u32
     ensures { result ≡ refusal image.now stretches.now }
 {

@@ -12,7 +12,7 @@ use native.Mathlib.Omega.{arith}
 use Rattle.arm7tdmi.specs.Names.{reg_string}
 use Rattle.lines.specs.Pieces.{joined, listed, registers, set_bits}
 use Rattle.lines.specs.Position.{names, so_far}
-use Rattle.common.proofs.Tests.{at, by_test}
+use Rattle.common.proofs.Tests.{by_test}
 use Rattle.common.specs.Bits.{bit, bit_range}
 use Rattle.text.specs.Text.{text}
 

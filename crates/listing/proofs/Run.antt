@@ -27,7 +27,7 @@ use Rattle.steps.specs.declared.Span.{Span}
 use Rattle.steps.proofs.Answers.{listed_end, listed_line, listed_offset_lem, listed_refused, listed_same, span_whole}
 use Rattle.steps.proofs.Places.{next_fine}
 use Rattle.listing.specs.declared.Listing.{Listing}
-use Rattle.listing.specs.Listing.{held_of, place_of, Opened, Resumed, step_from, moved_on, Stepped_is}
+use Rattle.listing.specs.Listing.{held_of, place_of, Opened, Resumed, step_from, moved_on, SteppedIs}
 use Rattle.listing.specs.Run.{run, shown}
 
 -- ---- the number of a pair that a listing carries
@@ -166,7 +166,7 @@ resumed_step xs list base offset l ys o e =
     as_anywhere xs list base l ys s.1 ∙ rw s.0
 
 -- and behind a step, it stands so again
-pub stands_on : (xs list : List ℕ) (base : ℕ) (l : Listing) (ys : List ℕ) (r : Listed) (zs : List ℕ) (l' : Listing) → Stands xs list base l → Stepped_is l ys r zs l' → Stands xs list base l'
+pub stands_on : (xs list : List ℕ) (base : ℕ) (l : Listing) (ys : List ℕ) (r : Listed) (zs : List ℕ) (l' : Listing) → Stands xs list base l → SteppedIs l ys r zs l' → Stands xs list base l'
 stands_on xs list base l ys r zs l' s a =
     let e = sym (as_anywhere xs list base l ys s) ∙ a.answer in
     let f : refusal_at xs list (next_place r) ≡ 0 = rw e at (next_fine xs list base l.at ys s.fine) in

@@ -35,6 +35,6 @@ abbrev pub moved_on : Listing → Listed → Listing
 moved_on l r = record { image = l.image; stretches = l.stretches; base = l.base; number = l.number; at = next_place r; next = first_left l.stretches.now l.next l.at }
 
 -- one step: the answer r and the buffer's bytes zs, and the listing l' behind it
-pub record Stepped_is (l : Listing) (ys : List ℕ) (r : Listed) (zs : List ℕ) (l' : Listing) : Type 0 where
+pub record SteppedIs (l : Listing) (ys : List ℕ) (r : Listed) (zs : List ℕ) (l' : Listing) : Type 0 where
   pub answer : step_from l ys ≡ (r, zs)
   pub after : l' ≡ moved_on l r

@@ -5,7 +5,7 @@ ghost use Rattle.std.specs.Prelude.{◌≡◌};
 ghost use Rattle.image.specs.Refusal.{refusal_at};
 ghost use Rattle.image.specs.Stretches.{first_left, left};
 ghost use Rattle.steps.specs.Listed.{listed, next_place};
-ghost use Rattle.listing.specs.Listing.{held_of, place_of, Opened, Resumed, Stepped_is};
+ghost use Rattle.listing.specs.Listing.{held_of, place_of, Opened, Resumed, SteppedIs};
 
 use image::{first_left, refusal_at};
 use steps::{Listed, step_at};
@@ -111,7 +111,7 @@ pub fn offset<'a>(l: Listing<'a>) -> usize
 
 // One step of a listing.
 pub fn step<'s, 'a, 'l>(l: &'s mut Listing<'a>, line: &'l mut [u8]) -> Listed
-    ensures { Stepped_is l.old line.old result line.new l.new }
+    ensures { SteppedIs l.old line.old result line.new l.new }
 {
     let s = step_on(l.image, l.stretches, l.base, l.at, l.next, line);
     l.at = s.at;

@@ -10,9 +10,8 @@ use native.Mathlib.Omega.{arith}
 use Rattle.lines.specs.Answer.{Answer, refused, line}
 use Rattle.common.proofs.Lists.{same_eq, same_refl}
 use Rattle.common.proofs.Lowest.{lowest_at_most, lowest_is, lowest_le, lowest_passes, verified_fails, verified_passes}
-use Rattle.common.proofs.Tests.{at, by_test}
+use Rattle.common.proofs.Tests.{by_test}
 use Rattle.reading.specs.Read.{is_line, read_back}
-use Rattle.text.proofs.Digits.{below}
 
 is_line_lem : (a : Answer) (l : List ℕ) → is_line a l ≡ true → a ≡ line l
 is_line_lem (refused n) l e = absurd (true≢false (sym e))

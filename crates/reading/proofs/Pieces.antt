@@ -6,7 +6,7 @@ use mathlib.Core.Bool.{Bool, ◌&&◌, ◌||◌, false, true, true≢false}
 use mathlib.Core.List.{List, [], ◌++◌, ◌∷◌, append_assoc, append-nil}
 use mathlib.Core.Path.{◌∙◌, ◌≡◌, ap, refl, sym}
 use native.Mathlib.Omega.{arith}
-use Rattle.common.proofs.Tests.{and_left, and_right, at, by_test}
+use Rattle.common.proofs.Tests.{and_left, and_right, by_test}
 use Rattle.common.specs.Lists.{first}
 use Rattle.reading.specs.Parts.{flag}
 use Rattle.text.proofs.Word.{after_of, behind_of, gap, gap_all, gap_starts, stops, word_of, wordy, wordy_all, wordy_starts}

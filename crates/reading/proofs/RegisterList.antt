@@ -13,7 +13,7 @@ use native.Mathlib.Omega.{arith}
 use Rattle.arm7tdmi.proofs.Names.{reg_back, reg_wordy}
 use Rattle.arm7tdmi.specs.Names.{reg_named, reg_names, reg_string}
 use Rattle.lines.specs.Pieces.{joined, set_bits}
-use Rattle.common.proofs.Tests.{and_left, and_right, at, at_not, by_test}
+use Rattle.common.proofs.Tests.{and_left, and_right, at_not, by_test}
 use Rattle.common.specs.Bits.{bit}
 use Rattle.common.specs.Lists.{first}
 use Rattle.reading.proofs.Pieces.{Pieces, first_word, first_of, from, from_nth, gaps_have, good, has_append, none, piece, spell}

@@ -9,7 +9,7 @@ use mathlib.Core.Path.{◌≡◌}
 use native.Mathlib.Nat.{lt_irrefl}
 use native.Mathlib.Omega.{arith}
 use Rattle.common.proofs.Lowest.{lowest_is}
-use Rattle.common.proofs.Tests.{at, by_test}
+use Rattle.common.proofs.Tests.{by_test}
 use Rattle.common.specs.Lowest.{lowest}
 
 module _ (p : ℕ → Bool) (n : ℕ) where

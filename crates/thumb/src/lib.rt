@@ -1,4 +1,6 @@
 // Thumb words: their kinds and their fields, as in the Rust's thumb/mod.rs.
+#![tactic(auto)]
+
 ghost use Rattle.std.specs.Prelude.{◌≡◌, ◌<◌, slice_index_or};
 ghost use Rattle.common.specs.Lists.{first as firstPlace};
 ghost use Rattle.common.specs.Bits.{bit, bit_range};
@@ -186,6 +188,7 @@ const THUMB_ROWS: [ThumbRow; 20] = [
 ];
 
 // The rows of a form: the sheet's differ in one.
+#[tactic(auto, unfolding(crate::specs::Kinds::thumb_rows))]
 fn thumb_rows(form: Form) -> [ThumbRow; 20]
     ensures { result ≡ thumb_rows form }
 {

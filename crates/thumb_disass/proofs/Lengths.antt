@@ -1,6 +1,6 @@
 -- "A line has from 5 to 80 bytes." Assumes nothing.
 use mathlib.Core.List.{◌++◌}
-use Prim.Native.Nat.{ℕ, ◌*◌, ◌<◌}
+use Prim.Native.Nat.{ℕ, ◌*◌}
 use native.Mathlib.Omega.{arith}
 use Rattle.common.specs.Bits.{bit, bit_range}
 use Rattle.text.specs.Text.{text}

@@ -1,7 +1,7 @@
 -- The lines of Thumb words, bench and sheet: one definition for each `fmt_` function of the Rust's thumb/disass.rs, in its order, with the Rust's
 -- format beside it. Where the sheet line differs (S5, S6 and S8 of document 01), an operand has the form; S7 is the kind's. S9 stands where an address
 -- is shown, S10 where an amount is. Assumes nothing.
-use Rattle.std.specs.Prelude.{cond, List, ◌++◌, ℕ, ◌+◌, ◌*◌}
+use Rattle.std.specs.Prelude.{cond, List, ◌++◌, ℕ, ◌*◌}
 use Rattle.common.specs.Bits.{bit, bit_range}
 use Rattle.text.specs.Text.{text}
 use Rattle.text.specs.Digits.{dec, prefixed}

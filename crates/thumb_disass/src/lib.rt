@@ -1,4 +1,6 @@
 // The lines of Thumb words, bench and sheet.
+#![tactic(auto)]
+
 ghost use Rattle.text.specs.Wrote.{Wrote};
 ghost use Rattle.thumb_disass.specs.Line.{line_of};
 

@@ -11,7 +11,7 @@ use Rattle.arm7tdmi.specs.Names.{reg_string}
 use Rattle.thumb.specs.Fields.{op_format5}
 use Rattle.arm7tdmi.specs.declared.Form.{Form}
 use Rattle.arm7tdmi.specs.declared.Form.TheVariants.{Bench, Sheet}
-use Rattle.common.proofs.Tests.{at, by_test}
+use Rattle.common.proofs.Tests.{by_test}
 use Rattle.common.specs.Lists.{first, same}
 use Rattle.reading.proofs.Pieces.{Pieces, good, last, piece, regroup, spell, word_nth}
 use Rattle.text.specs.Text.{text}

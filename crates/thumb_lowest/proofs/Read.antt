@@ -1,6 +1,5 @@
 -- THE LAW: a line is read back by its candidates. Assumes nothing.
 use Prim.Native.Nat.{◌<◌, ◌^◌, ℕ}
-use lib.Pow.{low}
 use mathlib.Core.Bool.{Bool, true}
 use mathlib.Core.List.{List, []}
 use mathlib.Core.Path.{◌≡◌, ap, refl, sym}
@@ -10,7 +9,6 @@ use Rattle.thumb.specs.Kinds.{thumb_format}
 use Rattle.arm7tdmi.specs.declared.Form.{Form}
 use Rattle.thumb.specs.declared.ThumbFormat.{ThumbFormat}
 use Rattle.common.proofs.Lists.{same_eq}
-use Rattle.common.proofs.Tests.{at}
 use Rattle.reading.proofs.Several.{Covers, best, covered}
 use Rattle.reading.specs.Read.{is_line, read_back}
 use Rattle.text.proofs.Word.{word_of}

@@ -1,4 +1,6 @@
 // The rows of the mnemonics. Each table is a `match`, since an array would be copied at each call.
+#![tactic(auto)]
+
 ghost use Rattle.std.specs.Prelude.{◌≡◌, ◌≤◌, ◌<◌, ◌%◌, ◌^◌};
 ghost use Rattle.common.specs.Lists.{find};
 ghost use Rattle.thumb_mnemonic.specs.Rows.{codes, next_row, row_at};

@@ -1,4 +1,6 @@
 // Operands of Thumb lines that are more than a field.
+#![tactic(auto)]
+
 ghost use Rattle.std.specs.Prelude.{◌≡◌};
 ghost use Rattle.text.specs.Wrote.{Wrote};
 ghost use Rattle.thumb_operand.specs.Operand.{high_dst, dst_reg, src_reg, dst_and_src, high_operands, imm_offset, add_sub_operand, sp_size, sp_bits, sheet_sp_offset, sp_offset, link_name, link_text, base_text};

@@ -1,4 +1,6 @@
 // Printing Thumb words: the line into a lent buffer.
+#![tactic(auto)]
+
 ghost use Rattle.std.specs.Prelude.{◌≡◌};
 ghost use Rattle.lines.specs.Answer.{line, printed};
 ghost use Rattle.thumb_disass.specs.Line.{line_of};

@@ -1,5 +1,4 @@
 -- `arm::added` meets its contract. Assumes nothing.
-use Rattle.std.proofs.Common.{rules}
 use Rattle.arm.specs.Fields.{added_of}
 use Rattle.arm.proofs.added.Goals as goal
 

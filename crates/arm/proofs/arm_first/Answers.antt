@@ -2,7 +2,7 @@
 use Rattle.arm7tdmi.proofs.Rows.{first_kind}
 use Rattle.arm.specs.Kinds.{arm_none}
 use Rattle.arm.specs.declared.ArmRow.{ArmRow}
-use Rattle.std.proofs.Common.{◌∙◌, rules}
+use Rattle.std.proofs.Common.{◌∙◌}
 use Rattle.arm.proofs.arm_first.Goals as goal
 
 pub returns : goal.returns

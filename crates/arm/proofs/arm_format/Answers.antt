@@ -1,5 +1,5 @@
 -- `arm::arm_format` meets its contract. Assumes nothing.
-use Rattle.std.proofs.Common.{List, ap, ◌∙◌, rules}
+use Rattle.std.proofs.Common.{List, ap, ◌∙◌}
 use Rattle.arm.specs.Kinds.{arm_first}
 use Rattle.arm.specs.declared.ArmRow.{ArmRow}
 use Rattle.arm.proofs.arm_format.Goals as goal

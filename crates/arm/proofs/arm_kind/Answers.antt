@@ -1,5 +1,5 @@
 -- `arm::arm_kind` meets its contract. Invariant: the kind is that of the place, if it is below i. Assumes nothing.
-use Rattle.std.proofs.Common.{◌≡◌, ◌-◌, ◌≤◌, length, get_or, take, refl, ap, ◌∙◌, ⊎_elim, arith, rules}
+use Rattle.std.proofs.Common.{refl, ap, ◌∙◌, arith, rules}
 use Rattle.arm7tdmi.proofs.Rows.{seen_all, seen_other, seen_there}
 use Rattle.arm.specs.Kinds.{arm_none}
 use Rattle.arm.specs.declared.ArmRow.{ArmRow}
@@ -17,7 +17,7 @@ loop-i-preserved c =
       omega arith,
       search rules,
       elim c.if-i-place.branch [
-        then-i-place w ↦ w.kind-is ∙ ap (λ (r : ArmRow). r.kind) (seen_there arm_none rows c.loop-i.i place _ _ (omega arith) w.if-i-place.true refl)
+        | then-i-place w ↦ w.kind-is ∙ ap (λ (r : ArmRow). r.kind) (seen_there arm_none rows c.loop-i.i place _ _ (omega arith) w.if-i-place.true refl)
         | else-i-place w ↦ w.kind-is ∙ c.loop-i.invariant.2 ∙ ap (λ (r : ArmRow). r.kind) (seen_other arm_none rows c.loop-i.i place w.if-i-place.false)
       ],
     )

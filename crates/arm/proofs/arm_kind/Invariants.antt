@@ -1,9 +1,6 @@
 -- `arm::arm_kind` meets its contract. Invariant: the kind is that of the place, if it is below i. Assumes nothing.
-use Rattle.std.proofs.Common.{◌≡◌, ◌-◌, ◌≤◌, length, get_or, take, refl, ap, ◌∙◌, ⊎_elim, arith, rules}
-use Rattle.arm7tdmi.proofs.Rows.{seen_all, seen_other, seen_there}
+use Rattle.std.proofs.Common.{◌≡◌, ◌-◌, ◌≤◌, length, get_or, take}
 use Rattle.arm.specs.Kinds.{arm_none}
-use Rattle.arm.specs.declared.ArmRow.{ArmRow}
-
 use Rattle.arm.proofs.arm_kind.Given as goal
 
 abbrev pub invariant-loop-i : goal.invariant-loop-i

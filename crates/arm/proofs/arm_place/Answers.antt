@@ -1,8 +1,7 @@
 -- `arm::arm_place` meets its contract. Invariant: none of the first i rows is met. Assumes nothing.
-use Rattle.std.proofs.Common.{◌≡◌, ◌+◌, ◌-◌, ◌≤◌, length, drop, arith, rules, eq-eqb, ne_eqb}
+use Rattle.std.proofs.Common.{arith, rules, eq-eqb, ne_eqb}
 use Rattle.arm.specs.Kinds.{arm_met}
 use Rattle.common.proofs.Lists.{first_here, first_on, first_out}
-use Rattle.common.specs.Lists.{first}
 use borrow.Author.Rules.{rules}
 use Rattle.arm.proofs.arm_place.Goals as goal
 

@@ -1,5 +1,5 @@
 -- `arm::arm_rows` meets its contract. Assumes nothing.
-use Rattle.std.proofs.Common.{sym, ap, rules}
+use Rattle.std.proofs.Common.{sym, ap}
 use Rattle.arm.specs.Kinds.{arm_rows}
 use Rattle.arm.proofs.arm_rows.Goals as goal
 

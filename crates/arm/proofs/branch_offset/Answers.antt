@@ -1,5 +1,5 @@
 -- `arm::branch_offset` meets its contract. Assumes nothing.
-use Rattle.std.proofs.Common.{◌-◌, ◌^◌, ◌∙◌, arith, rules, le-ltb, lt-ltb}
+use Rattle.std.proofs.Common.{◌-◌, ◌^◌, ◌∙◌, arith, le-ltb, lt-ltb}
 use Rattle.arm7tdmi.proofs.Integers.{scaled_up, negated_fits, scaled_fits, shifted}
 use Rattle.arm.specs.Fields.{branch_offset}
 use Rattle.arm.proofs.branch_offset.Goals as goal

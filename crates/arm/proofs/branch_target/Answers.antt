@@ -1,5 +1,5 @@
 -- `arm::branch_target` meets its contract. Assumes nothing.
-use Rattle.std.proofs.Common.{arith, rules}
+use Rattle.std.proofs.Common.{arith}
 use Rattle.arm7tdmi.proofs.Integers.{handed_bits}
 use Rattle.arm.specs.Fields.{branch_offset, branch_target}
 use Rattle.common.specs.Bits.{bit_range}

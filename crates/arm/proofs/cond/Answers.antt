@@ -1,5 +1,4 @@
 -- `arm::cond` meets its contract. Assumes nothing.
-use Rattle.std.proofs.Common.{rules}
 use Rattle.arm.proofs.cond.Goals as goal
 
 pub returns : goal.returns

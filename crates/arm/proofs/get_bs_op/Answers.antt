@@ -1,5 +1,4 @@
 -- `arm::get_bs_op` meets its contract. Assumes nothing.
-use Rattle.std.proofs.Common.{rules}
 use Rattle.arm.specs.Fields.{bs_op}
 use Rattle.arm.proofs.get_bs_op.Goals as goal
 

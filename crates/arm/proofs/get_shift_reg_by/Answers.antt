@@ -1,5 +1,4 @@
 -- `arm::get_shift_reg_by` meets its contract. Assumes nothing.
-use Rattle.std.proofs.Common.{rules}
 use Rattle.arm.specs.Fields.{shift_reg_by}
 use Rattle.arm.proofs.get_shift_reg_by.Goals as goal
 

@@ -1,5 +1,5 @@
 -- `arm::halfword_data_transfer_type` meets its contract. Assumes nothing.
-use Rattle.std.proofs.Common.{◌≡◌, ℕ, get_or, sym, ap, ◌∙◌, arith, rules}
+use Rattle.std.proofs.Common.{◌≡◌, ℕ, get_or, sym, ap, ◌∙◌, arith}
 use Rattle.arm.specs.Fields.{halfword_type, halfword_types}
 use Rattle.arm.specs.declared.ArmHalfwordTransferType.TheVariants.{Invalid}
 use Rattle.common.specs.Bits.{bit_range}

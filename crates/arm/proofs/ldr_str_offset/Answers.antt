@@ -1,5 +1,4 @@
 -- `arm::ldr_str_offset` meets its contract. Assumes nothing.
-use Rattle.std.proofs.Common.{rules}
 use Rattle.arm.specs.Fields.{ldr_str_offset}
 use Rattle.arm.proofs.ldr_str_offset.Goals as goal
 

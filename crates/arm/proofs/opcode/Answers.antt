@@ -1,5 +1,4 @@
 -- `arm::opcode` meets its contract. Assumes nothing.
-use Rattle.std.proofs.Common.{rules}
 use Rattle.arm.proofs.opcode.Goals as goal
 
 pub returns : goal.returns

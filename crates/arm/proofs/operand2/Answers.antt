@@ -1,5 +1,4 @@
 -- `arm::operand2` meets its contract. Assumes nothing.
-use Rattle.std.proofs.Common.{rules}
 use Rattle.arm.specs.Fields.{operand2}
 use Rattle.arm.proofs.operand2.Goals as goal
 

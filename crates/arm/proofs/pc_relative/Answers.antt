@@ -1,5 +1,4 @@
 -- `arm::pc_relative` meets its contract. Assumes nothing.
-use Rattle.std.proofs.Common.{rules}
 use Rattle.arm.specs.Fields.{pc_relative}
 use Rattle.arm.proofs.pc_relative.Goals as goal
 

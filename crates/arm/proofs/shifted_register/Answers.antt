@@ -1,5 +1,4 @@
 -- `arm::shifted_register` meets its contract. Assumes nothing.
-use Rattle.std.proofs.Common.{rules}
 use Rattle.arm.proofs.shifted_register.Goals as goal
 
 pub returns : goal.returns

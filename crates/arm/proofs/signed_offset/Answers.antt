@@ -1,5 +1,5 @@
 -- `arm::signed_offset` meets its contract. Assumes nothing.
-use Rattle.std.proofs.Common.{arith, rules}
+use Rattle.std.proofs.Common.{arith}
 use Rattle.arm.specs.Fields.{signed_offset}
 use Rattle.arm.proofs.signed_offset.Goals as goal
 

@@ -1,5 +1,4 @@
 -- `arm::transfer_size` meets its contract. Assumes nothing.
-use Rattle.std.proofs.Common.{rules}
 use Rattle.arm.proofs.transfer_size.Goals as goal
 
 pub returns-then-bit : goal.returns-then-bit

@@ -1,5 +1,5 @@
 -- `arm7tdmi::named_reg` meets its contract: each arm is computed; the last says that the number is that of no name. Assumes nothing.
-use Rattle.std.proofs.Common.{◌≡◌, ◌+◌, ◌*◌, ◌/◌, ◌^◌, arith, rules}
+use Rattle.std.proofs.Common.{◌≡◌, ◌+◌, ◌*◌, ◌/◌, ◌^◌, arith}
 use Rattle.arm7tdmi.proofs.Names.{no_name}
 use Rattle.arm7tdmi.specs.Names.{reg_names}
 use Rattle.common.specs.Lists.{first}

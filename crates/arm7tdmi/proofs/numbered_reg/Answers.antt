@@ -1,5 +1,5 @@
 -- `arm7tdmi::numbered_reg` meets its contract. Assumes nothing.
-use Rattle.std.proofs.Common.{◌≡◌, ◌+◌, ◌*◌, ◌^◌, ltb, arith, rules, lt-ltb}
+use Rattle.std.proofs.Common.{◌≡◌, ◌+◌, ◌*◌, ◌^◌, ltb, arith, lt-ltb}
 use Rattle.arm7tdmi.proofs.Names.{digit_reg, no_number}
 use Rattle.arm7tdmi.specs.Names.{reg_names}
 use Rattle.common.specs.Lists.{first}

@@ -1,5 +1,5 @@
 -- `arm7tdmi::put_reg` meets its contract. Assumes nothing.
-use Rattle.std.proofs.Common.{arith, rules}
+use Rattle.std.proofs.Common.{arith}
 use Rattle.arm7tdmi.proofs.Names.{reg_none, reg_pair, reg_ten}
 use Rattle.text.proofs.Wrote.{◌⨾◌, kept, nothing, same_as}
 use Rattle.arm7tdmi.proofs.put_reg.Goals as goal

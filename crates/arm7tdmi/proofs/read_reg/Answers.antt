@@ -1,5 +1,5 @@
 -- `arm7tdmi::read_reg` meets its contract. Assumes nothing.
-use Rattle.std.proofs.Common.{◌∙◌, rules}
+use Rattle.std.proofs.Common.{◌∙◌}
 use Rattle.arm7tdmi.proofs.Names.{reg_found}
 use Rattle.arm7tdmi.proofs.read_reg.Goals as goal
 

@@ -1,6 +1,5 @@
 -- `arm_operand::put_sheet_offset` meets its contract: what it writes is what its calls write, one after the other. Assumes nothing.
 use Rattle.arm_operand.specs.Operand.{sheet_offset}
-use Rattle.common.proofs.Tests.{at}
 use Rattle.text.proofs.Wrote.{◌⨾◌, same_as}
 use Rattle.arm_operand.proofs.put_sheet_offset.Goals as goal
 

@@ -1,11 +1,8 @@
 -- `image::first_left` meets its contract. Invariant: of the pairs from next on, those before pair i end before the place or at it. Assumes nothing.
-use Prim.Native.Nat.{◌+◌, ◌-◌, ◌/◌, ◌<◌, ◌≤◌}
-use lib.ListN.{length}
-use mathlib.Core.Path.{◌≡◌, refl}
+use Prim.Native.Nat.{◌<◌, ◌≤◌}
 use native.Mathlib.Omega.{arith}
-use Rattle.common.specs.Lists.{first}
 use Rattle.image.proofs.Stretches.{left_here, left_on, left_out}
-use Rattle.image.specs.Stretches.{end, ends_past, first_left, left, pair_at}
+use Rattle.image.specs.Stretches.{end, pair_at}
 use Rattle.image.proofs.first_left.Goals as goal
 
 pub returns-then-at-end_of : goal.returns-then-at-end_of

@@ -1,12 +1,9 @@
 -- `image::first_left` meets its contract. Invariant: of the pairs from next on, those before pair i end before the place or at it. Assumes nothing.
-use Prim.Native.Nat.{◌+◌, ◌-◌, ◌/◌, ◌<◌, ◌≤◌}
+use Prim.Native.Nat.{◌+◌, ◌-◌, ◌/◌}
 use lib.ListN.{length}
-use mathlib.Core.Path.{◌≡◌, refl}
-use native.Mathlib.Omega.{arith}
+use mathlib.Core.Path.{◌≡◌}
 use Rattle.common.specs.Lists.{first}
-use Rattle.image.proofs.Stretches.{left_here, left_on, left_out}
-use Rattle.image.specs.Stretches.{end, ends_past, first_left, left, pair_at}
-
+use Rattle.image.specs.Stretches.{ends_past, first_left, left}
 use Rattle.image.proofs.first_left.Given as goal
 
 abbrev pub invariant-loop-i : goal.invariant-loop-i

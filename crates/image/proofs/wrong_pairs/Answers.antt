@@ -1,12 +1,10 @@
 -- `image::wrong_pairs` meets its contract. Invariant: the pairs before pair i are fine, and the last of them ends at before. Assumes nothing.
-use Prim.Native.Nat.{◌-◌, ◌/◌}
-use lib.ListN.{length}
 use mathlib.Core.Bool.{true, false}
-use mathlib.Core.Path.{◌∙◌, ◌≡◌, refl, sym}
+use mathlib.Core.Path.{◌∙◌, ◌≡◌, sym}
 use native.Mathlib.Omega.{arith}
 use Rattle.image.proofs.Valid.{wrong_here, wrong_on, wrong_out}
-use Rattle.image.specs.Stretches.{left, pair_at, pairs}
-use Rattle.image.specs.Refusal.{wrong_pair, wrong_pairs}
+use Rattle.image.specs.Stretches.{pair_at}
+use Rattle.image.specs.Refusal.{wrong_pair}
 use Rattle.image.proofs.wrong_pairs.Goals as goal
 
 pub returns-then-wrong_pair : goal.returns-then-wrong_pair

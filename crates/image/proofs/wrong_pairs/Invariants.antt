@@ -1,13 +1,9 @@
 -- `image::wrong_pairs` meets its contract. Invariant: the pairs before pair i are fine, and the last of them ends at before. Assumes nothing.
 use Prim.Native.Nat.{◌-◌, ◌/◌}
 use lib.ListN.{length}
-use mathlib.Core.Bool.{true, false}
-use mathlib.Core.Path.{◌∙◌, ◌≡◌, refl, sym}
-use native.Mathlib.Omega.{arith}
-use Rattle.image.proofs.Valid.{wrong_here, wrong_on, wrong_out}
-use Rattle.image.specs.Stretches.{left, pair_at, pairs}
-use Rattle.image.specs.Refusal.{wrong_pair, wrong_pairs}
-
+use mathlib.Core.Path.{◌≡◌}
+use Rattle.image.specs.Stretches.{left, pairs}
+use Rattle.image.specs.Refusal.{wrong_pairs}
 use Rattle.image.proofs.wrong_pairs.Given as goal
 
 abbrev pub invariant-loop-i : goal.invariant-loop-i

@@ -1,6 +1,6 @@
 -- `lines::put_address` meets its contract: what it writes is what its calls write, one after the other. Assumes nothing.
 use Rattle.lines.specs.Address.{address}
-use Rattle.text.proofs.Wrote.{◌⨾◌, kept}
+use Rattle.text.proofs.Wrote.{◌⨾◌}
 use Rattle.text.specs.Digits.{prefixed}
 use Rattle.lines.proofs.put_address.Goals as goal
 

@@ -1,5 +1,5 @@
 -- `lines::put_reg_comma` meets its contract. Assumes nothing.
-use Rattle.text.proofs.Wrote.{◌⨾◌, kept}
+use Rattle.text.proofs.Wrote.{◌⨾◌}
 use Rattle.lines.proofs.put_reg_comma.Goals as goal
 
 pub returns : goal.returns

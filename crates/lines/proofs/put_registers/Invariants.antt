@@ -1,13 +1,9 @@
 -- `lines::put_registers` meets its contract. Invariant: the position stands directly behind the registers below i, and `rest` has the bits from i on. Assumes nothing.
-use Prim.Native.Nat.{◌+◌, ◌-◌, ◌<◌, ◌≤◌}
-use mathlib.Core.Path.{◌≡◌, sym}
-use native.Mathlib.Omega.{arith}
-use Rattle.lines.proofs.Registers.{registers_left, registers_next, registers_pass}
-use Rattle.lines.specs.Pieces.{registers, set_bits}
+use Prim.Native.Nat.{◌-◌, ◌≤◌}
+use mathlib.Core.Path.{◌≡◌}
+use Rattle.lines.specs.Pieces.{registers}
 use Rattle.common.specs.Bits.{bit_range}
-use Rattle.text.proofs.Wrote.{◌⨾◌, behind, kept, nothing, same_as, wrote}
 use Rattle.text.specs.Wrote.{Behind}
-
 use Rattle.lines.proofs.put_registers.Given as goal
 
 abbrev pub invariant-loop-rest : goal.invariant-loop-rest

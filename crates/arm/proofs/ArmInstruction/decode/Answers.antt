@@ -1,5 +1,4 @@
 -- `arm::ArmInstruction::decode` meets its contract. Assumes nothing.
-use Rattle.std.proofs.Common.{rules}
 use Rattle.arm.proofs.ArmInstruction.decode.Goals as goal
 
 pub returns : goal.returns

@@ -1,5 +1,5 @@
 -- `arm7tdmi::alu::rotate_right` meets its contract. Assumes nothing.
-use Rattle.std.proofs.Common.{◌%◌, arith, rules}
+use Rattle.std.proofs.Common.{◌%◌, arith}
 use Rattle.arm7tdmi.proofs.Rotate.{shifted_up, turned_lt}
 use Rattle.arm7tdmi.specs.Alu.{rotate_right}
 use Rattle.arm7tdmi.proofs.alu.rotate_right.Goals as goal

@@ -1,5 +1,4 @@
 -- `arm7tdmi::bit::bit` meets its contract. Assumes nothing.
-use Rattle.std.proofs.Common.{rules}
 use Rattle.arm7tdmi.proofs.bit.bit.Goals as goal
 
 pub returns : goal.returns

@@ -1,5 +1,5 @@
 -- `arm7tdmi::bit::bit_range` meets its contract. Assumes nothing.
-use Rattle.std.proofs.Common.{◌≡◌, ◌-◌, ◌∙◌, arith, rules}
+use Rattle.std.proofs.Common.{◌≡◌, ◌-◌, ◌∙◌, arith}
 use Rattle.arm7tdmi.proofs.bit.bit_range.Goals as goal
 
 pub returns-then-b-a : goal.returns-then-b-a

@@ -1,5 +1,5 @@
 -- `arm7tdmi::bit::high` meets its contract. Assumes nothing.
-use Rattle.std.proofs.Common.{sym, arith, pow_mono, rules}
+use Rattle.std.proofs.Common.{sym, arith, pow_mono}
 use native.Mathlib.Nat.{div-eq_of_lt}
 use Rattle.arm7tdmi.proofs.bit.high.Goals as goal
 

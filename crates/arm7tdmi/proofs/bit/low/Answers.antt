@@ -1,5 +1,5 @@
 -- `arm7tdmi::bit::low` meets its contract. Assumes nothing.
-use Rattle.std.proofs.Common.{◌≡◌, ◌^◌, sym, ◌∙◌, mod-eq_of_lt, arith, pow_pos, pow_mono, rules}
+use Rattle.std.proofs.Common.{◌≡◌, ◌^◌, sym, ◌∙◌, mod-eq_of_lt, arith, pow_pos, pow_mono}
 use Rattle.arm7tdmi.proofs.Integers.{pow_whole}
 use Rattle.arm7tdmi.proofs.bit.low.Goals as goal
 

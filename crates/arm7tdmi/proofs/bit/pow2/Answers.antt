@@ -1,5 +1,5 @@
 -- `arm7tdmi::bit::pow2` meets its contract. Assumes nothing.
-use Rattle.std.proofs.Common.{◌≡◌, ℕ, ◌+◌, ◌-◌, ◌*◌, ◌^◌, sym, ap, ◌∙◌, one-mul, arith, pow-add, rules}
+use Rattle.std.proofs.Common.{◌≡◌, ℕ, ◌+◌, ◌-◌, ◌*◌, ◌^◌, sym, ap, ◌∙◌, one-mul, arith, pow-add}
 use native.Mathlib.Nat.{mul-mod_left}
 use Rattle.arm7tdmi.proofs.bit.pow2.Goals as goal
 

@@ -1,5 +1,5 @@
 -- `arm7tdmi::cond::put_cond` meets its contract. Assumes nothing.
-use Rattle.std.proofs.Common.{arith, rules}
+use Rattle.std.proofs.Common.{arith}
 use Rattle.arm7tdmi.proofs.Names.{cond_none, cond_pair}
 use Rattle.text.proofs.Wrote.{◌⨾◌, kept, nothing, same_as}
 use Rattle.arm7tdmi.proofs.cond.put_cond.Goals as goal

@@ -1,5 +1,5 @@
 -- `arm7tdmi::cond::read_cond` meets its contract. Assumes nothing.
-use Rattle.std.proofs.Common.{◌∙◌, rules}
+use Rattle.std.proofs.Common.{◌∙◌}
 use Rattle.arm7tdmi.proofs.Names.{cond_found}
 use Rattle.arm7tdmi.specs.Names.{cond_names}
 use Rattle.text.specs.Word.{packed}

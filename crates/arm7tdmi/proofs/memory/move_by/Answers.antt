@@ -1,5 +1,5 @@
 -- `arm7tdmi::memory::move_by` meets its contract. Assumes nothing.
-use Rattle.std.proofs.Common.{ℕ, ◌+◌, ◌%◌, ◌^◌, ap, ◌∙◌, w32, of_z, rules}
+use Rattle.std.proofs.Common.{ℕ, ◌+◌, ◌%◌, ◌^◌, ap, ◌∙◌, w32, of_z}
 use Rattle.arm7tdmi.proofs.Integers.{held}
 use Rattle.arm7tdmi.proofs.memory.move_by.Goals as goal
 

@@ -1,5 +1,4 @@
 -- `arm7tdmi::alu::BarrelShiftOpCode::amount` meets its contract. Assumes nothing.
-use Rattle.std.proofs.Common.{rules}
 use Rattle.arm7tdmi.specs.Alu.{amount_of}
 use Rattle.arm7tdmi.proofs.alu.BarrelShiftOpCode.amount.Goals as goal
 

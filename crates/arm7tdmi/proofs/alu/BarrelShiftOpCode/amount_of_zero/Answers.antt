@@ -1,5 +1,4 @@
 -- `arm7tdmi::alu::BarrelShiftOpCode::amount_of_zero` meets its contract: one answer for each arm. Assumes nothing.
-use Rattle.std.proofs.Common.{rules}
 use Rattle.arm7tdmi.proofs.alu.BarrelShiftOpCode.amount_of_zero.Goals as goal
 
 pub returns-in-LSL : goal.returns-in-LSL

@@ -1,5 +1,5 @@
 -- `arm7tdmi::alu::BarrelShiftOpCode::sheet_amount` meets its contract. Assumes nothing.
-use Rattle.std.proofs.Common.{rules, eq-eqb, ne_eqb}
+use Rattle.std.proofs.Common.{eq-eqb, ne_eqb}
 use Rattle.arm7tdmi.specs.Alu.{sheet_amount}
 use Rattle.arm7tdmi.proofs.alu.BarrelShiftOpCode.sheet_amount.Goals as goal
 

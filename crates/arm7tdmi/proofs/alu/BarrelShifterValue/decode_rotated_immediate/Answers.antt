@@ -1,5 +1,4 @@
 -- `arm7tdmi::alu::BarrelShifterValue::decode_rotated_immediate` meets its contract. Assumes nothing.
-use Rattle.std.proofs.Common.{rules}
 use Rattle.arm7tdmi.specs.Alu.{decode_rotated_immediate}
 use Rattle.arm7tdmi.proofs.alu.BarrelShifterValue.decode_rotated_immediate.Goals as goal
 

@@ -1,0 +1,21 @@
+-- `pairs::read::read_pair` meets its contract. Assumes nothing.
+use Rattle.std.proofs.Common.{sym, ◌∙◌}
+use Rattle.pairs.proofs.Reading.{read_none, read_some, wrong_length}
+use Rattle.pairs.proofs.read.read_pair.Goals as goal
+
+pub returns-then-line-ne13 : goal.returns-then-line-ne13
+returns-then-line-ne13 c =
+    let a = c.args in
+    sym (wrong_length a.address a.line.now c.if-line-ne13.true)
+
+pub returns-then-spells : goal.returns-then-spells
+returns-then-spells c =
+    let a = c.args in
+    read_some a.address a.line.now c.read_hex.result c.distance-d.result c.first_for-first.result c.second_for-second.result
+    c.read_hex.ensures c.distance-d.ensures c.first_for-first.ensures c.second_for-second.ensures (sym c.spells.ensures ∙ c.if-spells.true)
+
+pub returns : goal.returns
+returns c =
+    let a = c.args in
+    read_none a.address a.line.now c.read_hex.result c.distance-d.result c.first_for-first.result c.second_for-second.result
+    c.read_hex.ensures c.distance-d.ensures c.first_for-first.ensures c.second_for-second.ensures (sym c.spells.ensures ∙ c.if-spells.false)
