@@ -98,6 +98,7 @@ fn lacks_type(fmt: ArmFormat, raw: u32) -> bool
 }
 
 // Refusal 1, refusal 2, or the line.
+#[tactic(auto, unfolding(lines::specs::Answer::printed, crate::specs::Print::answer_of))]
 fn print_format(form: Form, fmt: ArmFormat, raw: u32, pc: u32, buf: &mut [u8]) -> Printed
     ensures { printed (answer_of form fmt pc raw) buf.old ≡ (result, buf.new) }
 {

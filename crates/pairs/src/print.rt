@@ -19,6 +19,7 @@ pub fn put_pair(buf: &mut [u8], pc: u32, first: u16, second: u16) -> usize
 }
 
 // Prints the line of two halfwords at an address into a buffer. It has 13 bytes.
+#[tactic(auto, using(crate::proofs::Printing::print_none, crate::proofs::Printing::print_short))]
 pub fn print_pair(first: u16, second: u16, pc: u32, buf: &mut [u8]) -> Printed
     ensures { printed (pair_line pc first second) buf.old ≡ (result, buf.new) }
 {

@@ -12,7 +12,6 @@ use Rattle.lines.specs.Answer.{Answer, refused, line, given, printed}
 use Rattle.lines.specs.declared.Printed.{Printed}
 use Rattle.thumb.specs.Kinds.{thumb_format}
 use Rattle.arm7tdmi.specs.declared.Form.{Form}
-use Rattle.common.proofs.Tests.{at}
 use Rattle.common.specs.Lists.{same}
 use Rattle.reading.proofs.Demand.{none_read, read_most}
 use Rattle.reading.specs.Read.{is_line}

@@ -1,4 +1,6 @@
 // Reading a Thumb line back: the lowest word that prints it. For each row of its mnemonic whose kind suits the line, a candidate is taken from the line's words and marks, printed, and compared with the line.
+#![tactic(auto)]
+
 ghost use Rattle.std.specs.Prelude.{◌≡◌, cond, ◌≤◌, ◌^◌, min};
 ghost use Rattle.reading.specs.Read.{is_line};
 ghost use Rattle.thumb_print.specs.Print.{thumb_line};
