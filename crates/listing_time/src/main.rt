@@ -1,12 +1,15 @@
 // The listing's measure: lists an image as often as asked, or prints its lines alone, and writes the number of steps of one pass. Standard input has the
 // number of passes, with bit 31 set for the prints alone, and the image's length, 32-bit little-endian each, the image, and the pairs of its stretches, or
 // for the prints alone a letter for each step: w for an ARM word, h for a Thumb halfword, p for a call pair.
+#![tactic(auto)]
+
 use arm_print::print_arm;
 use arm7tdmi::Form;
 use image::{half_at, refusal, word_at};
-use libc::{STDIN_FILENO, STDOUT_FILENO};
 use listing::step_on;
 use pairs::print::print_pair;
+use std::io;
+use std::io::Read;
 use text::put::part;
 use thumb_print::print_thumb;
 
@@ -23,17 +26,15 @@ fn pass<'a>(image: &'a [u8], stretches: &'a [u8], line: &mut [u8; LINE]) -> usiz
     }
     let mut at = 0;
     let mut next = 0;
-    let mut steps = 0;
-    while steps < image.len() {
+    for steps in 0..image.len() {
         let s = step_on(image, stretches, 0, at, next, line);
         if s.at == at {
             return steps;
         }
         at = s.at;
         next = s.next;
-        steps += 1;
     }
-    steps
+    image.len()
 }
 
 // Prints what stands at a place, and answers how many bytes that is.
@@ -45,7 +46,7 @@ fn print(image: &[u8], span: u8, at: usize, line: &mut [u8; LINE]) -> usize {
     }
     let first = half_at(image, at) as u16;
     if span == b'p' {
-        let behind = std::num::wrapping_add_usize(at, 2);
+        let behind = at.wrapping_add(2);
         print_pair(first, half_at(image, behind) as u16, pc, line);
         return 4;
     }
@@ -55,27 +56,23 @@ fn print(image: &[u8], span: u8, at: usize, line: &mut [u8; LINE]) -> usize {
 
 // The prints of one pass alone, where it is known what stands at each place: their number.
 fn prints(image: &[u8], spans: &[u8], line: &mut [u8; LINE]) -> usize {
-    let mut at = 0;
-    let mut i = 0;
-    while i < spans.len() {
-        at = std::num::wrapping_add_usize(at, print(image, spans[i], at, line));
-        i += 1;
+    let mut at: usize = 0;
+    for span in spans {
+        at = at.wrapping_add(print(image, *span, at, line));
     }
-    i
+    spans.len()
 }
 
 // So many passes over an image, each a listing by its stretches, or the prints of its spans alone: the number of steps of the last.
 fn passes<'a>(n: u32, alone: bool, image: &'a [u8], list: &'a [u8]) -> usize {
     let mut line = [0u8; LINE];
     let mut steps = 0;
-    let mut left = n;
-    while left > 0 {
+    for _ in 0..n {
         if alone {
             steps = prints(image, list, &mut line);
         } else {
             steps = pass(image, list, &mut line);
         }
-        left -= 1;
     }
     steps
 }
@@ -89,10 +86,9 @@ fn list(input: &[u8]) -> usize {
     passes(n % 0x8000_0000, n >= 0x8000_0000, image, rest)
 }
 
-fn main() {
-    let mut space = [0u8; INPUT];
-    let n = io::read_full(STDIN_FILENO, &mut space);
-    let steps = list(part(&space, 0, n));
-    io::print_decimal(STDOUT_FILENO, steps as u64);
-    io::write_all(STDOUT_FILENO, b"\n");
+fn main(rt: HostRuntime) -> io::Result<()> {
+    let mut input = Vec::new(rt.alloc());
+    rt.stdin().take(INPUT as u64).read_to_end(&mut input)?;
+    let steps = list(input.as_slice());
+    println!(rt; "{steps}")
 }

@@ -1,6 +1,9 @@
 // The row program: for each row of standard input, its answer and a line end on standard output, in constant memory.
-use libc::{STDIN_FILENO, STDOUT_FILENO};
+#![tactic(auto)]
+
 use row::block::{BLOCK, HELD, ROOM, answer_block, answer_last};
+use std::io;
+use std::io::{Read, Write};
 use text::put::part;
 
 // What a turn leaves: how many bytes of a row are held, and whether there may be more input.
@@ -11,51 +14,61 @@ struct After {
 }
 
 // Reads a block and writes its answers.
-fn turn(
+fn turn<R: Read, W: Write>(
+    from: &mut R,
+    to: &mut W,
     space: &mut [u8; HELD],
     held: usize,
     block: &mut [u8; BLOCK],
     out: &mut [u8; ROOM],
-) -> After {
-    let got = libc::read(STDIN_FILENO, block);
-    if got <= 0 {
-        return After { held, more: false };
+) -> io::Result<After> {
+    let n = from.read(block)?;
+    if n == 0 {
+        return Ok(After { held, more: false });
     }
-    let n = io::count(got, block);
     let left = answer_block(space, held, block, n, out);
-    io::write_all(STDOUT_FILENO, part(out, 0, left.at));
-    After {
+    to.write_all(part(out, 0, left.at))?;
+    Ok(After {
         held: left.held,
         more: true,
-    }
+    })
 }
 
-// All blocks. A proved loop has to end: this one counts down from a number that no input uses up.
-fn all_blocks(space: &mut [u8; HELD], block: &mut [u8; BLOCK], out: &mut [u8; ROOM]) -> usize {
+// All blocks. A proved loop has to end: this one has more turns than any input has blocks.
+fn all_blocks<R: Read, W: Write>(
+    from: &mut R,
+    to: &mut W,
+    space: &mut [u8; HELD],
+    block: &mut [u8; BLOCK],
+    out: &mut [u8; ROOM],
+) -> io::Result<usize> {
     let mut held = 0;
-    let mut turns = u64::MAX;
-    while turns > 0 {
-        let after = turn(space, held, block, out);
+    for _ in 0..u64::MAX {
+        let after = turn(from, to, space, held, block, out)?;
         held = after.held;
-        if after.more {
-            turns -= 1;
-        } else {
-            return held;
+        if !after.more {
+            break;
         }
     }
-    held
+    Ok(held)
 }
 
 // Writes the answer for a last row without a line end.
-fn finish(space: &[u8; HELD], held: usize, out: &mut [u8; ROOM]) {
+fn finish<W: Write>(
+    to: &mut W,
+    space: &[u8; HELD],
+    held: usize,
+    out: &mut [u8; ROOM],
+) -> io::Result<()> {
     let n = answer_last(space, held, out);
-    io::write_all(STDOUT_FILENO, part(out, 0, n));
+    to.write_all(part(out, 0, n))
 }
 
-fn main() {
+fn main(rt: HostRuntime) -> io::Result<()> {
     let mut space = [0u8; HELD];
     let mut block = [0u8; BLOCK];
     let mut out = [0u8; ROOM];
-    let held = all_blocks(&mut space, &mut block, &mut out);
-    finish(&space, held, &mut out);
+    let mut to = rt.stdout();
+    let held = all_blocks(&mut rt.stdin(), &mut to, &mut space, &mut block, &mut out)?;
+    finish(&mut to, &space, held, &mut out)
 }

@@ -1,14 +1,16 @@
 // The worked lines and the traps of the papers, through the public operations: how many answers differ from them.
+#![tactic(auto)]
+
 ghost use Rattle.std.specs.Prelude.{◌≤◌};
 
 use arm_print::print_arm;
 use arm_read::{ArmRead, read_arm};
 use arm7tdmi::Form;
-use libc::STDOUT_FILENO;
 use pairs::print::print_pair;
 use pairs::read::{PairRead, read_pair};
 use pairs::run::{Pairing, unpaired};
-use text::put::{part, put_dec, put_text};
+use std::io;
+use text::put::part;
 use text::read::equal;
 use thumb_print::print_thumb;
 use thumb_read::{ThumbRead, read_thumb};
@@ -331,8 +333,7 @@ fn runs() -> u32
     n + run(&[0x4770, 0xf000, 0xf800, 0xf7ff, 0xfffe], false, 0)
 }
 
-fn main() {
-    let mut out = [0u8; 64];
+fn main(rt: HostRuntime) -> io::Result<()> {
     let n = arm_bench()
         + arm_sheet()
         + thumb_both()
@@ -350,7 +351,5 @@ fn main() {
         + read_pairs()
         + read_no_pairs()
         + runs();
-    let at = put_dec(&mut out, 0, n);
-    let at = put_text(&mut out, at, b" of 103 answers differ\n");
-    io::write_all(STDOUT_FILENO, part(&out, 0, at));
+    println!(rt; "{n} of 103 answers differ")
 }

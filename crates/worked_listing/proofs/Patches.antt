@@ -39,7 +39,6 @@ use Rattle.image.specs.Bytes.{half, word}
 use Rattle.image.specs.Refusal.{refusal, refusal_at, wrong_pairs}
 use Rattle.image.specs.Stretches.{pairs, pairs_from, set_at}
 use Rattle.image.specs.declared.Set.{Set}
-use Rattle.image.specs.declared.Set.TheVariants as Set
 use Rattle.steps.specs.Steps.{call_pair, span_in, span_line, steps, steps_for}
 use Rattle.patch.specs.Patch.{patched, patched_in, patch_refusal, read_in, stored, with_number, words_of}
 use Rattle.worked_listing.specs.Patches.{Row, given_row, row_of, table}

@@ -6,9 +6,11 @@
 //
 // The rows under it go on with that image. `patch`, an offset of eight digits and a sheet line: shown by the patch's number, and all bytes of the image then.
 // `resume`, an offset and a title: shown by the steps from there on.
-use image::half_at;
-use libc::{STDIN_FILENO, STDOUT_FILENO};
+#![tactic(auto)]
+
 use patch::patch;
+use std::io;
+use std::io::Read;
 use steps::{Listed, list_step};
 use text::put::{part, put_byte, put_dec, put_hex, put_text};
 use text::read::{contains, first_word, index_of, next_word, read_dec, read_hex};
@@ -32,11 +34,10 @@ fn byte_at(digits: &[u8], i: usize) -> u8 {
 fn fill(buf: &mut [u8], digits: &[u8], times: usize) -> usize {
     let size = buf.len();
     let n = digits.len() / 2;
-    let mut k = 0;
     if contains(digits, b'n') {
         return 0;
     }
-    while k < size {
+    for k in 0..size {
         if n == 0 {
             return 0;
         }
@@ -44,9 +45,8 @@ fn fill(buf: &mut [u8], digits: &[u8], times: usize) -> usize {
             return k;
         }
         put_byte(buf, k, byte_at(digits, k % n));
-        k += 1;
     }
-    k
+    size
 }
 
 // A step with a part of a buffer lent, or all of it.
@@ -96,8 +96,7 @@ fn put_steps(
     let mut lent = room;
     let mut at = place;
     let mut o = from;
-    let mut turns: usize = 64;
-    while turns > 0 {
+    for _ in 0..64 {
         let s = step(image, stretches, base, at, &mut line, lent);
         o = put_step(out, o, s, &line);
         if s.bytes() == 0 {
@@ -107,14 +106,13 @@ fn put_steps(
                 return o;
             }
         }
-        at = std::num::wrapping_add_usize(at, s.bytes());
-        turns -= 1;
+        at = at.wrapping_add(s.bytes());
     }
     o
 }
 
 // The image that the rows are about: its base, and how many bytes it and the list of its stretches have.
-#[derive(Drop)]
+#[derive(Clone, Copy)]
 struct Case {
     base: u32,
     image: usize,
@@ -129,11 +127,12 @@ fn put_row(out: &mut [u8], row: &[u8]) -> usize {
 
 // A listing: its image is filled in, and its steps are shown.
 fn show_listing(
+    rt: &impl Print,
     row: &[u8],
     image: &mut [u8; IMAGE],
     stretches: &mut [u8; SHOWN],
     out: &mut [u8; SHOWN],
-) -> Case {
+) -> io::Result<Case> {
     let base = read_hex(first_word(row));
     let row2 = next_word(row);
     let place = read_hex(first_word(row2)) as usize;
@@ -154,22 +153,23 @@ fn show_listing(
         place,
         room,
     );
-    io::write_all(STDOUT_FILENO, part(out, 0, o));
-    Case {
+    rt.write_all(part(out, 0, o))?;
+    Ok(Case {
         base,
         image: n,
         stretches: m,
-    }
+    })
 }
 
 // The listing, resumed.
 fn show_resumed(
+    rt: &impl Print,
     row: &[u8],
     case: Case,
     image: &[u8; IMAGE],
     stretches: &[u8; SHOWN],
     out: &mut [u8; SHOWN],
-) {
+) -> io::Result<()> {
     let o = put_row(out, row);
     let o = put_steps(
         out,
@@ -180,7 +180,7 @@ fn show_resumed(
         read_hex(first_word(next_word(row))) as usize,
         80,
     );
-    io::write_all(STDOUT_FILENO, part(out, 0, o));
+    rt.write_all(part(out, 0, o))
 }
 
 // A patch of the first n bytes of a buffer, or of all.
@@ -200,26 +200,25 @@ fn patch_part(
 
 // Bytes, as two digits each, or none.
 fn put_bytes(out: &mut [u8], from: usize, bytes: &[u8]) -> usize {
-    if bytes.len() == 0 {
+    if bytes.is_empty() {
         return put_text(out, from, b"none");
     }
     let mut o = from;
-    let mut i = 0;
-    while i < bytes.len() {
-        o = put_hex(out, o, 2, half_at(bytes, i) % 256);
-        i += 1;
+    for b in bytes {
+        o = put_hex(out, o, 2, u32::from(*b));
     }
     o
 }
 
 // The image, patched.
 fn show_patch(
+    rt: &impl Print,
     row: &[u8],
     case: Case,
     image: &mut [u8; IMAGE],
     stretches: &[u8; SHOWN],
     out: &mut [u8; SHOWN],
-) {
+) -> io::Result<()> {
     let number = patch_part(
         image,
         case.image,
@@ -233,47 +232,47 @@ fn show_patch(
     let o = put_byte(out, o, b' ');
     let o = put_bytes(out, o, part(image, 0, case.image));
     let o = put_byte(out, o, b'\n');
-    io::write_all(STDOUT_FILENO, part(out, 0, o));
+    rt.write_all(part(out, 0, o))
 }
 
 // All rows. A row has a byte at least, so there are no more turns than bytes.
 fn show_all(
+    rt: &impl Print,
     table: &[u8],
     image: &mut [u8; IMAGE],
     stretches: &mut [u8; SHOWN],
     out: &mut [u8; SHOWN],
-) {
+) -> io::Result<()> {
     let mut case = Case {
         base: 0,
         image: 0,
         stretches: 0,
     };
-    let mut from = 0;
-    let mut turns = table.len();
-    while turns > 0 {
+    let mut from: usize = 0;
+    for _ in 0..table.len() {
         let rest = part(table, from, TABLE);
         let n = index_of(rest, b'\n');
-        if rest.len() == 0 {
-            return;
+        if rest.is_empty() {
+            break;
         }
         let row = part(rest, 0, n);
         if contains(first_word(row), b'p') {
-            show_patch(row, case, image, stretches, out);
+            show_patch(rt, row, case, image, stretches, out)?;
         } else if contains(first_word(row), b'r') {
-            show_resumed(row, case, image, stretches, out);
+            show_resumed(rt, row, case, image, stretches, out)?;
         } else {
-            case = show_listing(row, image, stretches, out);
+            case = show_listing(rt, row, image, stretches, out)?;
         }
-        from = std::num::wrapping_add_usize(from, std::num::wrapping_add_usize(n, 1));
-        turns -= 1;
+        from = from.wrapping_add(n).wrapping_add(1);
     }
+    Ok(())
 }
 
-fn main() {
-    let mut table = [0u8; TABLE];
+fn main(rt: HostRuntime) -> io::Result<()> {
+    let mut table = Vec::new(rt.alloc());
+    rt.stdin().take(TABLE as u64).read_to_end(&mut table)?;
     let mut image = [0u8; IMAGE];
     let mut stretches = [0u8; SHOWN];
     let mut out = [0u8; SHOWN];
-    let size = io::read_full(STDIN_FILENO, &mut table);
-    show_all(part(&table, 0, size), &mut image, &mut stretches, &mut out);
+    show_all(&rt, table.as_slice(), &mut image, &mut stretches, &mut out)
 }
