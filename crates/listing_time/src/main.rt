@@ -86,9 +86,22 @@ fn list(input: &[u8]) -> usize {
     passes(n % 0x8000_0000, n >= 0x8000_0000, image, rest)
 }
 
+// Reads the input, as far as there is room, and answers how many bytes there are.
+fn read_full<R: Read>(from: &mut R, to: &mut [u8]) -> io::Result<usize> {
+    let mut n = 0;
+    for _ in 0..to.len() {
+        let got = from.read(&mut to[n..])?;
+        if got == 0 {
+            break;
+        }
+        n += got;
+    }
+    Ok(n)
+}
+
 fn main(rt: HostRuntime) -> io::Result<()> {
-    let mut input = Vec::new(rt.alloc());
-    rt.stdin().take(INPUT as u64).read_to_end(&mut input)?;
-    let steps = list(input.as_slice());
+    let mut space = [0u8; INPUT];
+    let n = read_full(&mut rt.stdin(), &mut space)?;
+    let steps = list(part(&space, 0, n));
     println!(rt; "{steps}")
 }

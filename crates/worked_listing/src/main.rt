@@ -268,11 +268,24 @@ fn show_all(
     Ok(())
 }
 
+// Reads the input, as far as there is room, and answers how many bytes there are.
+fn read_full<R: Read>(from: &mut R, to: &mut [u8]) -> io::Result<usize> {
+    let mut n = 0;
+    for _ in 0..to.len() {
+        let got = from.read(&mut to[n..])?;
+        if got == 0 {
+            break;
+        }
+        n += got;
+    }
+    Ok(n)
+}
+
 fn main(rt: HostRuntime) -> io::Result<()> {
-    let mut table = Vec::new(rt.alloc());
-    rt.stdin().take(TABLE as u64).read_to_end(&mut table)?;
+    let mut table = [0u8; TABLE];
     let mut image = [0u8; IMAGE];
     let mut stretches = [0u8; SHOWN];
     let mut out = [0u8; SHOWN];
-    show_all(&rt, table.as_slice(), &mut image, &mut stretches, &mut out)
+    let size = read_full(&mut rt.stdin(), &mut table)?;
+    show_all(&rt, part(&table, 0, size), &mut image, &mut stretches, &mut out)
 }
