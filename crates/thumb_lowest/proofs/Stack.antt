@@ -210,11 +210,11 @@ module _ (form : Form) (pc l list : ℕ) where
       let tail : good (behind_word (reg_string r) (text "!, {") (set_bits list 8) (text "}")) ≡ true =
       list_good (text "}") refl (reg_string r) (text "!, {") (set_bits list 8) (reg_wordy r (omega arith)) refl b in
       let g : good (block r) ≡ true = rw row.one_word tail in
-      let first-is : reg_in 1 (spell (block r)) ≡ r = rw (word_nth 1 (block r) g, list_first (reg_string r) (text "!, {") (set_bits list 8) (text "}")) (reg_back r (omega arith)) in
+      let first_is : reg_in 1 (spell (block r)) ≡ r = rw (word_nth 1 (block r) g, list_first (reg_string r) (text "!, {") (set_bits list 8) (text "}")) (reg_back r (omega arith)) in
       let names : list_in 8 (from_word 2 (spell (block r))) ≡ list =
       rw (from_nth 2 (block r) g).0 (list_back (text "}") refl 8 (reg_string r) (text "!, {") (set_bits list 8) (bits_few list 8) b ∙ bits_sum list 8 ∙ omega arith) in
       found form pc H.LdmStm tt (l ∷ kept form rb ∷ list ∷ []) (l ∷ rb ∷ list ∷ []) f n (block r) (0xc000 + l * 2 ^ 11) row g
-      (rw (block_in_lem form rb list (spell (block r)) first-is names) (omega arith))
+      (rw (block_in_lem form rb list (spell (block r)) first_is names) (omega arith))
       (block_shown rb f) (block_shown (kept form rb) n.fits ∙ ap (λ (x : ℕ). spell (block x)) (base_kept form rb list)) refl
 
 pub ldm_stm_law : (form : Form) (pc : ℕ) → Words form pc H.LdmStm tt
