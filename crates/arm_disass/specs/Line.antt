@@ -1,7 +1,7 @@
 -- The lines of ARM words, bench and sheet: one definition for each `fmt_` function of the Rust's arm/disass.rs, in its order, with the Rust's
 -- format beside it. The form stands where the sheet line differs: S3 of document 01 (S1, S4 and S10 are an operand's, S2 the kind's), and S9
 -- where an address is shown. Assumes nothing.
-use Rattle.std.specs.Prelude.{Bool, true, false, cond, ◌&&◌, not, List, [], ◌++◌, ℕ, ◌^◌}
+use Rattle.std.specs.Prelude.{Bool, true, false, cond, ◌&&◌, not, List, [], ◌++◌, ℕ}
 use Rattle.common.specs.Bits.{bit, bit_range}
 use Rattle.text.specs.Text.{text}
 use Rattle.text.specs.Digits.{prefixed}

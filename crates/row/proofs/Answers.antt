@@ -14,7 +14,7 @@ use Rattle.lines.specs.Answer.{Answer, refused, line, given, printed}
 use Rattle.lines.proofs.Whole.{Whole}
 use Rattle.arm7tdmi.specs.declared.Form.TheVariants.{Bench}
 use Rattle.arm_print.proofs.Whole.{arm_whole}
-use Rattle.common.proofs.Tests.{and_left, and_right, at, by_test}
+use Rattle.common.proofs.Tests.{and_left, and_right, by_test}
 use Rattle.common.proofs.Lists.{part_rest}
 use Rattle.row.specs.Row.{address_digits, answer_text, fields_of, hex_number, is_hex, is_row, word_digits, word_line}
 use Rattle.row.specs.declared.Fields.TheVariants.{Both, Nothing}

@@ -16,7 +16,6 @@ use Rattle.image.specs.Bytes.{half, word}
 use Rattle.image.specs.Refusal.{refusal_at}
 use Rattle.image.specs.Stretches.{Stretch, left, first_left, pairs, set_at}
 use Rattle.image.specs.declared.Set.{Set}
-use Rattle.image.specs.declared.Set.TheVariants as Set
 use Rattle.image.proofs.Stretches.{left_same}
 use Rattle.steps.specs.Steps.{call_pair, span_in, span_at, span_bytes, span_line, has_step}
 use Rattle.steps.specs.Listed.{listed_offset, listed_bytes, told, listed, list_step}

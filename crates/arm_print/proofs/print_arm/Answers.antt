@@ -1,6 +1,5 @@
 -- `arm_print::print_arm` meets its contract. Assumes nothing.
 use Rattle.arm_print.specs.Print.{arm_line}
-use Rattle.common.proofs.Tests.{at}
 use Rattle.arm_print.proofs.print_arm.Goals as goal
 
 pub returns : goal.returns

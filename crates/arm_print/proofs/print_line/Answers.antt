@@ -6,13 +6,11 @@ use lib.Seq.{take_at}
 use mathlib.Core.List.{List}
 use mathlib.Core.Path.{◌≡◌, refl}
 use native.Mathlib.Omega.{arith}
-use Rattle.lines.proofs.Lengths.{room}
 use Rattle.lines.specs.Answer.{printed}
 use Rattle.arm7tdmi.specs.declared.Form.{Form}
 use Rattle.arm.specs.declared.ArmFormat.{ArmFormat}
 use Rattle.arm_disass.proofs.Lengths.{line_within}
 use Rattle.arm_disass.specs.Line.{line_of}
-use Rattle.common.proofs.Tests.{at}
 use Rattle.text.proofs.Wrote.{kept, lies}
 use Rattle.text.specs.Wrote.{Wrote}
 use Rattle.arm_print.proofs.print_line.Goals as goal

@@ -1,5 +1,4 @@
 -- `modestsilk::silk_print_arm` meets its contract. Assumes nothing.
-use Rattle.common.proofs.Tests.{at}
 use Rattle.modestsilk.proofs.silk_print_arm.Goals as goal
 
 pub returns : goal.returns

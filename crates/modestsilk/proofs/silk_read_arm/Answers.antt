@@ -1,6 +1,5 @@
 -- `modestsilk::silk_read_arm` meets its contract. Assumes nothing.
 use mathlib.Core.Path.{◌∙◌, ◌≡◌, sym}
-use Rattle.common.proofs.Tests.{at}
 use Rattle.modestsilk.specs.Numbers.{form_of}
 use Rattle.arm_read.specs.Answer.{read_answer}
 use Rattle.modestsilk.proofs.silk_read_arm.Goals as goal

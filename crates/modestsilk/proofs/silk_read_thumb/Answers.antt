@@ -1,6 +1,5 @@
 -- `modestsilk::silk_read_thumb` meets its contract. Assumes nothing.
 use mathlib.Core.Path.{◌∙◌, ◌≡◌, sym}
-use Rattle.common.proofs.Tests.{at}
 use Rattle.modestsilk.specs.Numbers.{form_of}
 use Rattle.thumb_read.specs.Answer.{read_answer}
 use Rattle.modestsilk.proofs.silk_read_thumb.Goals as goal

@@ -1,5 +1,4 @@
 -- `arm_disass::disass::fmt_ldm_stm` meets its contract: what it writes is what its calls write, one after the other. Assumes nothing.
-use Prim.Native.Nat.{ℕ}
 use Rattle.lines.proofs.Positions.{before_each}
 use Rattle.lines.specs.Pieces.{registers}
 use Rattle.lines.specs.Position.{BeforeEach, names}
