@@ -59,7 +59,7 @@
  * else that it is given, nor be used by another call at that time. The functions
  * keep no state, so any thread may call them.
  *
- * Link with target/staticlib/libmodestsilk.a (rt staticlib modestsilk).
+ * Link with crates/modestsilk/out/libmodestsilk.a (rt lib, in crates/modestsilk).
  */
 #ifndef MODESTSILK_H
 #define MODESTSILK_H

@@ -287,5 +287,11 @@ fn main(rt: HostRuntime) -> io::Result<()> {
     let mut stretches = [0u8; SHOWN];
     let mut out = [0u8; SHOWN];
     let size = read_full(&mut rt.stdin(), &mut table)?;
-    show_all(&rt, part(&table, 0, size), &mut image, &mut stretches, &mut out)
+    show_all(
+        &rt,
+        part(&table, 0, size),
+        &mut image,
+        &mut stretches,
+        &mut out,
+    )
 }
