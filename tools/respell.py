@@ -13,8 +13,15 @@ BREAKS = r'\s(){}\[\].,;:«»"`|'
 TOKEN = re.compile(r'[^%s]+' % BREAKS)
 STRING = re.compile(r'b?"(?:[^"\\]|\\.)*"')
 DECLARED = re.compile(r"^\s*(?:(?:pattern|unfoldable|abbrev|axiom|pub|record|data|module|mod|use)\s+)*([^%s]+)(?:\s*[{(].*?[)}])*\s+:(?=\s)" % BREAKS)
-# A lemma that would have its definition's name ends in `_lem`; these the port script had turned already, or fall on a name that it had turned.
-CHOSEN = {'Stepped-is': 'SteppedIs', 'block_in': 'block_in_lem', 'is-line': 'is_line_lem', 'line-of': 'line_of_lem', 'read-arm': 'read_arm_lem'}
+# A lemma that would have its definition's name ends in `_lem` (here where the port script had turned one of the two already); a record is named as a type.
+CHOSEN = {
+    'Stepped-is': 'SteppedIs',
+    'block_in': 'block_in_lem',
+    'getD-any': 'get_or_any',
+    'is-line': 'is_line_lem',
+    'line-of': 'line_of_lem',
+    'read-arm': 'read_arm_lem',
+}
 
 
 def antt_files():

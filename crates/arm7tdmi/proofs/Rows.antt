@@ -6,10 +6,10 @@ use Rattle.common.proofs.Tests.{by_test}
 use Rattle.common.specs.Lists.{first}
 
 -- within a list it is all the same what stands past its end
-pub get_d_any : {A : Type 0} (l : List A) (i : ℕ) (d e : A) → i < length l → get_or l i d ≡ get_or l i e
-get_d_any [] i d e h = absurd (not-suc-le-zero h)
-get_d_any (x ∷ xs) zero d e h = refl
-get_d_any (x ∷ xs) (suc i) d e h = get_d_any xs i d e (le_of_suc-le-suc h)
+pub get_or_any : {A : Type 0} (l : List A) (i : ℕ) (d e : A) → i < length l → get_or l i d ≡ get_or l i e
+get_or_any [] i d e h = absurd (not-suc-le-zero h)
+get_or_any (x ∷ xs) zero d e h = refl
+get_or_any (x ∷ xs) (suc i) d e h = get_or_any xs i d e (le_of_suc-le-suc h)
 
 -- ---- the first row that is met has the kind
 module _ {R K : Type 0} (mask value : R → ℕ) (kind : R → K) (d : R) (w : ℕ) where
@@ -33,7 +33,7 @@ module _ {R : Type 0} (d : R) where
 
   pub seen_there : (rs : List R) (i j : ℕ) (e r : R) → i < length rs → i ≡ j → r ≡ get_or rs i e → r ≡ get_or (take (i + 1) rs) j d
   seen_there rs i j e r h q s =
-      rw (← q, add-one) (s ∙ get_d_any rs i e d h ∙ sym (get_or-take (suc i) rs i d (omega arith)))
+      rw (← q, add-one) (s ∙ get_or_any rs i e d h ∙ sym (get_or-take (suc i) rs i d (omega arith)))
 
   pub seen_other : (rs : List R) (i j : ℕ) → (i ≡ j → ⊥) → get_or (take i rs) j d ≡ get_or (take (i + 1) rs) j d
   seen_other rs i j f = rw add-one (sym (take_other rs i j f))

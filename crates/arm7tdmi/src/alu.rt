@@ -142,6 +142,7 @@ impl BarrelShiftOpCode {
         }
     }
 
+    #[tactic(auto, unfolding(crate::specs::Alu::sheet_amount))]
     fn sheet_amount(self, n: u32) -> Amount
         ensures { result ≡ sheet_amount self n }
     {
