@@ -10,16 +10,19 @@ use Rattle.lines.specs.Position.{BeforeName, names}
 use Rattle.text.proofs.Wrote.{◌⨾◌, nothing, same_as}
 use Rattle.text.specs.Wrote.{Behind}
 use Rattle.lines.proofs.put_listed.Goals as goal
+use Rattle.lines.proofs.put_listed.Lts as states
+use Rattle.lines.proofs.put_listed.Reads.{Post, Pre}
+use Rattle.lines.proofs.put_listed.Tie.{the-claims}
 
 -- before the name the position stands directly behind the last byte written, if the place that was given stands directly behind the registers below it: a name
 -- alone stands where no register is below it, another one behind a separator
 module _ {l : List ℕ} {start : ℕ} where
-  pub before_first : (c : goal.After-slice_known-then-bit_range-eq0-1) → let a = c.args in Behind l start (registers a.raw a.i) a.buf.now a.at → BeforeName l start (names a.raw a.i) (reg_string a.i) [] c.put_reg.new.buf c.put_reg.result
+  pub before_first : (c : states.After-put_reg the-claims Pre Post) → let a = c.args in Behind l start (registers a.raw a.i) a.buf.now a.at → BeforeName l start (names a.raw a.i) (reg_string a.i) [] c.put_reg.new.buf c.put_reg.result
   before_first c b =
       let a = c.args in
       first_name a.raw a.i b (sym c.bit_range.ensures ∙ c.if-bit_range-eq0.true) c.put_reg.ensures
 
-  pub before_next : (c : goal.After-slice_known-then-bit-2-1) → let a = c.args in Behind l start (registers a.raw a.i) a.buf.now a.at → BeforeName l start (names a.raw a.i) (reg_string a.i) [] c.put_reg-then-bit.new.buf c.put_reg-then-bit.result
+  pub before_next : (c : states.After-put_reg2 the-claims Pre Post) → let a = c.args in Behind l start (registers a.raw a.i) a.buf.now a.at → BeforeName l start (names a.raw a.i) (reg_string a.i) [] c.put_reg-then-bit.new.buf c.put_reg-then-bit.result
   before_next c b =
       let a = c.args in
       next_name a.raw a.i b (λ e. c.if-bit_range-eq0.false (c.bit_range.ensures ∙ e)) c.put_text-at.ensures c.put_reg-then-bit.ensures

@@ -7,16 +7,19 @@ use Rattle.text.proofs.Wrote.{◌⨾◌, nothing, same_as}
 use Rattle.text.specs.Wrote.{Behind}
 use Rattle.thumb_operand.specs.Operand.{link_name, link_text}
 use Rattle.thumb_operand.proofs.put_link.Goals as goal
+use Rattle.thumb_operand.proofs.put_link.Lts as states
+use Rattle.thumb_operand.proofs.put_link.Reads.{Post, Pre}
+use Rattle.thumb_operand.proofs.put_link.Tie.{the-claims}
 
 -- before the name the position stands directly behind the last byte written, if the place that was given stands directly behind the registers: a name alone
 -- stands where no register is in the list, another one behind a separator
 module _ {l : List ℕ} {start : ℕ} where
-  pub before_first : (c : goal.After-slice_known-then-register_list-eq0-1) → let a = c.args in Behind l start (registers a.raw 8) a.buf.now a.at → BeforeName l start (names a.raw 8) (link_name a.raw) [] c.put_link_name.new.buf c.put_link_name.result
+  pub before_first : (c : states.After-put_link_name the-claims Pre Post) → let a = c.args in Behind l start (registers a.raw 8) a.buf.now a.at → BeforeName l start (names a.raw 8) (link_name a.raw) [] c.put_link_name.new.buf c.put_link_name.result
   before_first c b =
       let a = c.args in
       first_name a.raw 8 b (sym c.register_list.ensures ∙ c.if-register_list-eq0.true) c.put_link_name.ensures
 
-  pub before_next : (c : goal.After-slice_known-then-bit-2-1) → let a = c.args in Behind l start (registers a.raw 8) a.buf.now a.at → BeforeName l start (names a.raw 8) (link_name a.raw) [] c.put_link_name-then-bit.new.buf c.put_link_name-then-bit.result
+  pub before_next : (c : states.After-put_link_name2 the-claims Pre Post) → let a = c.args in Behind l start (registers a.raw 8) a.buf.now a.at → BeforeName l start (names a.raw 8) (link_name a.raw) [] c.put_link_name-then-bit.new.buf c.put_link_name-then-bit.result
   before_next c b =
       let a = c.args in
       next_name a.raw 8 b (λ e. c.if-register_list-eq0.false (c.register_list.ensures ∙ e)) c.put_text-at.ensures c.put_link_name-then-bit.ensures

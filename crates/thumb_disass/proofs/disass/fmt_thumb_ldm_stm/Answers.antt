@@ -5,9 +5,12 @@ use Rattle.lines.specs.Position.{BeforeEach, names}
 use Rattle.text.proofs.Wrote.{◌⨾◌}
 use Rattle.thumb_disass.specs.Line.{fmt_thumb_ldm_stm}
 use Rattle.thumb_disass.proofs.disass.fmt_thumb_ldm_stm.Goals as goal
+use Rattle.thumb_disass.proofs.disass.fmt_thumb_ldm_stm.Lts as states
+use Rattle.thumb_disass.proofs.disass.fmt_thumb_ldm_stm.Reads.{Post, Pre}
+use Rattle.thumb_disass.proofs.disass.fmt_thumb_ldm_stm.Tie.{the-claims}
 
 -- before each name of the list the position stands directly behind the last byte written
-pub before_name : (c : goal.After-slice_known-7-1) → BeforeEach c.put_text-at.new.buf c.put_text-at.result (names c.args.raw 8) c.put_registers-at.new.buf c.put_registers-at.result
+pub before_name : (c : states.After-put_registers the-claims Pre Post) → BeforeEach c.put_text-at.new.buf c.put_text-at.result (names c.args.raw 8) c.put_registers-at.new.buf c.put_registers-at.result
 unfolding registers
 before_name c = before_each c.put_registers-at.ensures
 
