@@ -1,5 +1,5 @@
 -- ARM words: fields. Flags are bits, and need no definition. Assumes nothing.
-use Rattle.std.specs.Prelude.{ℕ, ◌+◌, ◌-◌, ◌*◌, ◌%◌, ◌^◌, cond, List, [], ◌∷◌, ℤ, slice_index_or}
+use Rattle.std.specs.Prelude.{ℕ, ◌+◌, ◌-◌, ◌*◌, ◌%◌, ◌^◌, cond, List, [], ◌∷◌, ℤ, Bool, Option, Some, None, slice_index_or}
 use Rattle.common.specs.Bits.{bit, bit_range}
 use Rattle.arm7tdmi.specs.Alu.{barrel_shift_op_code}
 use Rattle.arm7tdmi.specs.Signed.{signed_times, extended, moved}
@@ -7,19 +7,17 @@ use Rattle.arm7tdmi.specs.declared.alu.BarrelShiftOpCode.{BarrelShiftOpCode}
 use Rattle.arm7tdmi.specs.declared.alu.BarrelShiftOpCode.TheVariants as Shift
 use Rattle.arm7tdmi.specs.declared.alu.ShiftRegisterBy.{ShiftRegisterBy}
 use Rattle.arm7tdmi.specs.declared.alu.ShiftRegisterBy.TheVariants as By
-use Rattle.arm7tdmi.specs.declared.alu.Sign.{Sign}
-use Rattle.arm7tdmi.specs.declared.alu.Sign.TheVariants as S
 use Rattle.arm7tdmi.specs.declared.alu.BarrelShifterValue.{BarrelShifterValue}
 use Rattle.arm7tdmi.specs.declared.alu.BarrelShifterValue.TheVariants as Value
 use Rattle.arm.specs.declared.ArmHalfwordTransferType.{ArmHalfwordTransferType}
 use Rattle.arm.specs.declared.ArmHalfwordTransferType.TheVariants as Half
 
 -- the type of a halfword transfer, bits 6-5; 00 is none (refusal 2)
-abbrev pub halfword_types : List ArmHalfwordTransferType
-halfword_types = Half.Invalid ∷ Half.UnsignedHalfwords ∷ Half.SignedByte ∷ Half.SignedHalfwords ∷ []
+abbrev pub halfword_types : List (Option ArmHalfwordTransferType)
+halfword_types = None ∷ Some Half.UnsignedHalfwords ∷ Some Half.SignedByte ∷ Some Half.SignedHalfwords ∷ []
 
-unfoldable pub halfword_type : ℕ → ArmHalfwordTransferType
-halfword_type raw = slice_index_or halfword_types (bit_range raw 5 7) Half.Invalid
+unfoldable pub halfword_type : ℕ → Option ArmHalfwordTransferType
+halfword_type raw = slice_index_or halfword_types (bit_range raw 5 7) None
 
 -- the sign-extended 24-bit field times four
 unfoldable pub branch_offset : ℕ → ℤ
@@ -45,11 +43,11 @@ unfoldable pub operand2 : ℕ → BarrelShifterValue
 operand2 raw =
     cond (bit raw 25)
     (Value.RotatedImmediate (bit_range raw 0 8) (2 * bit_range raw 8 12))
-    (Value.ShiftedRegister (record { reg = bit_range raw 0 4; shift_by = shift_reg_by raw; bs_op = bs_op raw; added = S.Unsaid }))
+    (Value.ShiftedRegister (record { reg = bit_range raw 0 4; shift_by = shift_reg_by raw; bs_op = bs_op raw; added = None }))
 
 -- U, bit 23: an offset is added, or subtracted
-unfoldable pub added_of : ℕ → Sign
-added_of raw = cond (bit raw 23) S.Added S.Subtracted
+unfoldable pub added_of : ℕ → Option Bool
+added_of raw = Some (bit raw 23)
 
 -- an immediate offset as a number of 32 bits: with U clear, its negative
 unfoldable pub signed_offset : ℕ → ℕ → ℕ

@@ -1,14 +1,11 @@
 -- The kinds of ARM words: the first row of mask, value and kind that a word meets. Assumes nothing.
-use Rattle.std.specs.Prelude.{ℕ, Bool, List, [], ◌∷◌, ◌==◌, bit_and, slice_index_or}
+use Rattle.std.specs.Prelude.{ℕ, List, [], ◌∷◌, slice_index_or}
 use Rattle.arm7tdmi.specs.declared.Form.{Form}
 use Rattle.arm7tdmi.specs.declared.Form.TheVariants.{Bench, Sheet}
-use Rattle.arm.specs.declared.ArmRow.{ArmRow}
+use Rattle.arm7tdmi.specs.declared.kinds.Row.{Row}
 use Rattle.arm.specs.declared.ArmFormat.{ArmFormat}
 use Rattle.arm.specs.declared.ArmFormat.TheVariants as A
-use Rattle.arm7tdmi.specs.Kinds.{first_match}
-
-abbrev arm_row : ℕ → ℕ → ArmFormat → ArmRow
-arm_row m v k = record { mask = m; value = v; kind = k }
+use Rattle.arm7tdmi.specs.Kinds.{row, first_row}
 
 -- bits 27-25 equal to 011: bench, Undefined with bit 4 clear; sheet (S2), "Undefined with bit 4 set"
 abbrev pub undefined_bits : Form → ℕ
@@ -16,38 +13,34 @@ undefined_bits Bench = 0x06000000
 undefined_bits Sheet = 0x06000010
 
 -- the Rust's tests, in its order
-unfoldable pub arm_rows : Form → List ArmRow
+unfoldable pub arm_rows : Form → List (Row ArmFormat)
 arm_rows form =
-    arm_row 0x0ffffff0 0x012fff10 A.BranchExchange ∷
-    arm_row 0x0e000000 0x0a000000 A.BranchLink ∷
-    arm_row 0x0e000010 (undefined_bits form) A.Undefined ∷
-    arm_row 0x0fb00ff0 0x01000090 A.SingleDataSwap ∷
-    arm_row 0x0fc000f0 0x00000090 A.Multiply ∷
-    arm_row 0x0f8000f0 0x00800090 A.MultiplyLong ∷
-    arm_row 0x0fbf0fff 0x010f0000 A.MoveFromStatus ∷
-    arm_row 0x0fbffff0 0x0129f000 A.MoveToStatus ∷
-    arm_row 0x0dbff000 0x0128f000 A.MoveToFlags ∷
-    arm_row 0x0c000000 0x04000000 A.SingleDataTransfer ∷
-    arm_row 0x0e400f90 0x00000090 A.HalfwordDataTransferRegOffset ∷
-    arm_row 0x0e400090 0x00400090 A.HalfwordDataTransferImmediateOffset ∷
-    arm_row 0x0e000000 0x08000000 A.BlockDataTransfer ∷
-    arm_row 0x0f000000 0x0f000000 A.SoftwareInterrupt ∷
-    arm_row 0x0c000000 0x00000000 A.DataProcessing ∷
+    row 0x0ffffff0 0x012fff10 A.BranchExchange ∷
+    row 0x0e000000 0x0a000000 A.BranchLink ∷
+    row 0x0e000010 (undefined_bits form) A.Undefined ∷
+    row 0x0fb00ff0 0x01000090 A.SingleDataSwap ∷
+    row 0x0fc000f0 0x00000090 A.Multiply ∷
+    row 0x0f8000f0 0x00800090 A.MultiplyLong ∷
+    row 0x0fbf0fff 0x010f0000 A.MoveFromStatus ∷
+    row 0x0fbffff0 0x0129f000 A.MoveToStatus ∷
+    row 0x0dbff000 0x0128f000 A.MoveToFlags ∷
+    row 0x0c000000 0x04000000 A.SingleDataTransfer ∷
+    row 0x0e400f90 0x00000090 A.HalfwordDataTransferRegOffset ∷
+    row 0x0e400090 0x00400090 A.HalfwordDataTransferImmediateOffset ∷
+    row 0x0e000000 0x08000000 A.BlockDataTransfer ∷
+    row 0x0f000000 0x0f000000 A.SoftwareInterrupt ∷
+    row 0x0c000000 0x00000000 A.DataProcessing ∷
     []
 
 -- row i, and none past the last
-abbrev pub arm_none : ArmRow
-arm_none = arm_row 0 0 A.Undefined
+abbrev pub arm_none : Row ArmFormat
+arm_none = row 0 0 A.Undefined
 
-abbrev pub arm_row_at : Form → ℕ → ArmRow
+abbrev pub arm_row_at : Form → ℕ → Row ArmFormat
 arm_row_at form i = slice_index_or (arm_rows form) i arm_none
 
--- whether a word meets a row
-abbrev pub arm_met : ℕ → ArmRow → Bool
-arm_met w r = bit_and w r.mask == r.value
-
-abbrev pub arm_first : List ArmRow → ℕ → ArmFormat
-arm_first = first_match (λ (r : ArmRow). r.mask) (λ (r : ArmRow). r.value) (λ (r : ArmRow). r.kind) A.Undefined
+abbrev pub arm_first : List (Row ArmFormat) → ℕ → ArmFormat
+arm_first = first_row A.Undefined
 
 abbrev pub arm_format : Form → ℕ → ArmFormat
 arm_format form w = arm_first (arm_rows form) w

@@ -1,24 +1,24 @@
 // ARM words: their kinds and their fields, as in the Rust's arm/mod.rs.
 #![tactic(auto)]
 
-ghost use Rattle.std.specs.Prelude.{◌≡◌, ◌<◌, cond as boolCond, slice_index_or};
-ghost use Rattle.common.specs.Lists.{first};
-ghost use Rattle.arm.specs.Kinds.{arm_met, arm_none, arm_rows, arm_first, arm_format, arm_number};
+ghost use Rattle.std.specs.Prelude.{◌≡◌, cond as boolCond};
+ghost use Rattle.arm.specs.Kinds.{undefined_bits, arm_rows, arm_format, arm_number};
 ghost use Rattle.common.specs.Bits.{bit, bit_range};
 ghost use Rattle.arm7tdmi.specs.Alu.{alu_op_code};
 ghost use Rattle.arm7tdmi.specs.Cond.{arm_cond};
-ghost use Rattle.arm.specs.Fields.{halfword_type, branch_offset, branch_target, pc_relative, bs_op, shift_reg_by, operand2, added_of, signed_offset, ldr_str_offset, ldr_str_hs_imm_offset, ldr_str_hs_reg_offset};
+ghost use Rattle.arm.specs.Fields.{halfword_type, branch_offset, branch_target, pc_relative, bs_op, shift_reg_by, operand2, signed_offset, ldr_str_offset, ldr_str_hs_imm_offset, ldr_str_hs_reg_offset};
 
 use arm7tdmi::Form;
 use arm7tdmi::alu::{
-    AluOpCode, BarrelShiftOpCode, BarrelShifterValue, ShiftRegisterBy, ShiftedRegister, Sign,
+    AluOpCode, BarrelShiftOpCode, BarrelShifterValue, ShiftRegisterBy, ShiftedRegister,
 };
 use arm7tdmi::bit::{bit, bit_range};
 use arm7tdmi::cond::ArmCond;
+use arm7tdmi::kinds::{Row, first_match};
 use arm7tdmi::memory::{Addr, move_by};
 
 // The kinds of ARM words.
-#[derive(Clone, Copy)]
+#[derive(Clone, Copy, Debug, PartialEq, Eq)]
 pub enum ArmFormat {
     BranchExchange,
     BranchLink,
@@ -37,180 +37,66 @@ pub enum ArmFormat {
     Undefined,
 }
 
-impl ArmFormat {
-    // The kind's number, in the order of the enum.
-    pub fn number(self) -> u32
-        ensures { result ≡ arm_number self }
-    {
-        match self {
-            ArmFormat::BranchExchange => 0,
-            ArmFormat::BranchLink => 1,
-            ArmFormat::SoftwareInterrupt => 2,
-            ArmFormat::Multiply => 3,
-            ArmFormat::MultiplyLong => 4,
-            ArmFormat::SingleDataTransfer => 5,
-            ArmFormat::HalfwordDataTransferRegOffset => 6,
-            ArmFormat::HalfwordDataTransferImmediateOffset => 7,
-            ArmFormat::DataProcessing => 8,
-            ArmFormat::BlockDataTransfer => 9,
-            ArmFormat::SingleDataSwap => 10,
-            ArmFormat::MoveFromStatus => 11,
-            ArmFormat::MoveToStatus => 12,
-            ArmFormat::MoveToFlags => 13,
-            ArmFormat::Undefined => 14,
-        }
+// A kind's number, in the order of the enum.
+impl From<ArmFormat> for u32 {
+    ghost from_gives = { λ fmt n. n ≡ arm_number fmt };
+
+    fn from(fmt: ArmFormat) -> u32 {
+        fmt as u32
     }
 }
 
-#[derive(Clone, Copy)]
-pub struct ArmRow {
-    pub mask: u32,
-    pub value: u32,
-    pub kind: ArmFormat,
+// Bits 27-25 equal to 011: the value under which bit 4 makes a word undefined.
+fn undefined_bits(form: Form) -> u32
+    ensures { result ≡ undefined_bits form }
+{
+    match form {
+        Form::Bench => 0x0600_0000,
+        Form::Sheet => 0x0600_0010,
+    }
 }
 
-// The rows in the order in which they are tried, as the bench has them.
-const ARM_ROWS: [ArmRow; 15] = [
-    ArmRow {
-        mask: 0x0fff_fff0,
-        value: 0x012f_ff10,
-        kind: ArmFormat::BranchExchange,
-    },
-    ArmRow {
-        mask: 0x0e00_0000,
-        value: 0x0a00_0000,
-        kind: ArmFormat::BranchLink,
-    },
-    ArmRow {
-        mask: 0x0e00_0010,
-        value: 0x0600_0000,
-        kind: ArmFormat::Undefined,
-    },
-    ArmRow {
-        mask: 0x0fb0_0ff0,
-        value: 0x0100_0090,
-        kind: ArmFormat::SingleDataSwap,
-    },
-    ArmRow {
-        mask: 0x0fc0_00f0,
-        value: 0x0000_0090,
-        kind: ArmFormat::Multiply,
-    },
-    ArmRow {
-        mask: 0x0f80_00f0,
-        value: 0x0080_0090,
-        kind: ArmFormat::MultiplyLong,
-    },
-    ArmRow {
-        mask: 0x0fbf_0fff,
-        value: 0x010f_0000,
-        kind: ArmFormat::MoveFromStatus,
-    },
-    ArmRow {
-        mask: 0x0fbf_fff0,
-        value: 0x0129_f000,
-        kind: ArmFormat::MoveToStatus,
-    },
-    ArmRow {
-        mask: 0x0dbf_f000,
-        value: 0x0128_f000,
-        kind: ArmFormat::MoveToFlags,
-    },
-    ArmRow {
-        mask: 0x0c00_0000,
-        value: 0x0400_0000,
-        kind: ArmFormat::SingleDataTransfer,
-    },
-    ArmRow {
-        mask: 0x0e40_0f90,
-        value: 0x0000_0090,
-        kind: ArmFormat::HalfwordDataTransferRegOffset,
-    },
-    ArmRow {
-        mask: 0x0e40_0090,
-        value: 0x0040_0090,
-        kind: ArmFormat::HalfwordDataTransferImmediateOffset,
-    },
-    ArmRow {
-        mask: 0x0e00_0000,
-        value: 0x0800_0000,
-        kind: ArmFormat::BlockDataTransfer,
-    },
-    ArmRow {
-        mask: 0x0f00_0000,
-        value: 0x0f00_0000,
-        kind: ArmFormat::SoftwareInterrupt,
-    },
-    ArmRow {
-        mask: 0x0c00_0000,
-        value: 0x0000_0000,
-        kind: ArmFormat::DataProcessing,
-    },
-];
-
-// The rows of a form: the sheet's differ in one.
+// The rows of a form, in the order in which they are tried.
 #[tactic(auto, unfolding(crate::specs::Kinds::arm_rows))]
-fn arm_rows(form: Form) -> [ArmRow; 15]
+fn arm_rows(form: Form) -> [Row<ArmFormat>; 15]
     ensures { result ≡ arm_rows form }
 {
-    let mut rows = ARM_ROWS;
-    if let Form::Sheet = form {
-        rows[2] = ArmRow {
-            mask: 0x0e00_0010,
-            value: 0x0600_0010,
-            kind: ArmFormat::Undefined,
-        };
-    }
-    rows
-}
-
-// Where the first row stands whose mask and value the word meets, or 15.
-fn arm_place(rows: [ArmRow; 15], raw: u32) -> usize
-    ensures { result ≡ first (arm_met raw) rows }
-{
-    let mut i: usize = 0;
-    while i < 15 {
-        let row = rows[i];
-        if raw & row.mask == row.value {
-            return i;
-        }
-        i += 1;
-    }
-    i
-}
-
-// The kind of the row at a place. By a walk and not by an index, so that no row has to be in memory.
-fn arm_kind(rows: [ArmRow; 15], place: usize) -> ArmFormat
-    ensures { result ≡ (slice_index_or rows place arm_none).kind }
-{
-    let mut kind = ArmFormat::Undefined;
-    let mut i: usize = 0;
-    while i < 15 {
-        let row = rows[i];
-        if i == place {
-            kind = row.kind;
-        }
-        i += 1;
-    }
-    kind
-}
-
-// The kind of the first row whose mask and value the word meets.
-fn arm_first(rows: [ArmRow; 15], raw: u32) -> ArmFormat
-    ensures { result ≡ arm_first rows raw }
-{
-    arm_kind(rows, arm_place(rows, raw))
+    [
+        Row::new(0x0fff_fff0, 0x012f_ff10, ArmFormat::BranchExchange),
+        Row::new(0x0e00_0000, 0x0a00_0000, ArmFormat::BranchLink),
+        Row::new(0x0e00_0010, undefined_bits(form), ArmFormat::Undefined),
+        Row::new(0x0fb0_0ff0, 0x0100_0090, ArmFormat::SingleDataSwap),
+        Row::new(0x0fc0_00f0, 0x0000_0090, ArmFormat::Multiply),
+        Row::new(0x0f80_00f0, 0x0080_0090, ArmFormat::MultiplyLong),
+        Row::new(0x0fbf_0fff, 0x010f_0000, ArmFormat::MoveFromStatus),
+        Row::new(0x0fbf_fff0, 0x0129_f000, ArmFormat::MoveToStatus),
+        Row::new(0x0dbf_f000, 0x0128_f000, ArmFormat::MoveToFlags),
+        Row::new(0x0c00_0000, 0x0400_0000, ArmFormat::SingleDataTransfer),
+        Row::new(
+            0x0e40_0f90,
+            0x0000_0090,
+            ArmFormat::HalfwordDataTransferRegOffset,
+        ),
+        Row::new(
+            0x0e40_0090,
+            0x0040_0090,
+            ArmFormat::HalfwordDataTransferImmediateOffset,
+        ),
+        Row::new(0x0e00_0000, 0x0800_0000, ArmFormat::BlockDataTransfer),
+        Row::new(0x0f00_0000, 0x0f00_0000, ArmFormat::SoftwareInterrupt),
+        Row::new(0x0c00_0000, 0x0000_0000, ArmFormat::DataProcessing),
+    ]
 }
 
 // The kind of a word.
 pub fn arm_format(form: Form, raw: u32) -> ArmFormat
     ensures { result ≡ arm_format form raw }
 {
-    arm_first(arm_rows(form), raw)
+    first_match(arm_rows(form), raw, ArmFormat::Undefined)
 }
 
-// A decoded word.
-#[derive(Clone, Copy)]
+// A decoded word. A struct of this crate, and no instance of one that thumb shares, so that it has functions of its own, as in the Rust.
+#[derive(Clone, Copy, Debug, PartialEq, Eq)]
 pub struct ArmInstruction {
     pub fmt: ArmFormat,
     pub raw: u32,
@@ -231,18 +117,22 @@ impl ArmInstruction {
     }
 }
 
-// Fields, under the Rust's names.
+// Fields, under the Rust's names. Where it has several for the same bits, one function has them all.
+pub use crate::{
+    load_flag as set_cond_flag, pre_index_flag as link_flag, u_flag as psr_and_force_user_flag,
+    u_flag as spsr_flag, write_back_flag as accumulate_flag,
+};
 
 pub fn cond(raw: u32) -> ArmCond
     ensures { result ≡ arm_cond (bit_range raw 28 32) }
 {
-    ArmCond::from_u32(bit_range(raw, 28, 32))
+    ArmCond::from(bit_range(raw, 28, 32))
 }
 
 pub fn opcode(raw: u32) -> AluOpCode
     ensures { result ≡ alu_op_code (bit_range raw 21 25) }
 {
-    AluOpCode::from_u32(bit_range(raw, 21, 25))
+    AluOpCode::from(bit_range(raw, 21, 25))
 }
 
 pub fn rm(raw: u32) -> u32
@@ -275,37 +165,13 @@ pub fn load_flag(raw: u32) -> bool
     bit(raw, 20)
 }
 
-pub fn set_cond_flag(raw: u32) -> bool
-    ensures { result ≡ bit raw 20 }
-{
-    bit(raw, 20)
-}
-
 pub fn write_back_flag(raw: u32) -> bool
     ensures { result ≡ bit raw 21 }
 {
     bit(raw, 21)
 }
 
-pub fn accumulate_flag(raw: u32) -> bool
-    ensures { result ≡ bit raw 21 }
-{
-    bit(raw, 21)
-}
-
 pub fn u_flag(raw: u32) -> bool
-    ensures { result ≡ bit raw 22 }
-{
-    bit(raw, 22)
-}
-
-pub fn psr_and_force_user_flag(raw: u32) -> bool
-    ensures { result ≡ bit raw 22 }
-{
-    bit(raw, 22)
-}
-
-pub fn spsr_flag(raw: u32) -> bool
     ensures { result ≡ bit raw 22 }
 {
     bit(raw, 22)
@@ -323,12 +189,6 @@ pub fn pre_index_flag(raw: u32) -> bool
     bit(raw, 24)
 }
 
-pub fn link_flag(raw: u32) -> bool
-    ensures { result ≡ bit raw 24 }
-{
-    bit(raw, 24)
-}
-
 // The size of a transfer in bytes, by bit 22.
 pub fn transfer_size(raw: u32) -> u32
     ensures { result ≡ boolCond (bit raw 22) 1 4 }
@@ -339,61 +199,56 @@ pub fn transfer_size(raw: u32) -> u32
     4
 }
 
-#[derive(Clone, Copy)]
+#[derive(Clone, Copy, Debug, PartialEq, Eq)]
 pub enum ArmHalfwordTransferType {
-    Invalid,
     UnsignedHalfwords,
     SignedByte,
     SignedHalfwords,
 }
 
-pub fn halfword_data_transfer_type(raw: u32) -> ArmHalfwordTransferType
+// The type of a halfword transfer, if it has one.
+#[tactic(auto, unfolding(crate::specs::Fields::halfword_type))]
+pub fn halfword_data_transfer_type(raw: u32) -> Option<ArmHalfwordTransferType>
     ensures { result ≡ halfword_type raw }
 {
-    let k = bit_range(raw, 5, 7);
-    match k {
-        1 => ArmHalfwordTransferType::UnsignedHalfwords,
-        2 => ArmHalfwordTransferType::SignedByte,
-        3 => ArmHalfwordTransferType::SignedHalfwords,
-        _ => ArmHalfwordTransferType::Invalid,
+    match bit_range(raw, 5, 7) {
+        1 => Some(ArmHalfwordTransferType::UnsignedHalfwords),
+        2 => Some(ArmHalfwordTransferType::SignedByte),
+        3 => Some(ArmHalfwordTransferType::SignedHalfwords),
+        _ => None,
     }
 }
 
-// The sign-extended 24-bit field times four: by negation, so that no cast loses a bit, and a shift that keeps the sign.
+// The sign-extended 24-bit field times four: its sign goes to the top, and the shift back keeps it.
 pub fn branch_offset(raw: u32) -> i32
     ensures { result ≡ branch_offset raw }
 {
-    let field = bit_range(raw, 0, 24);
-    if field < 0x0080_0000 {
-        ((field * 256) as i32) >> 6
-    } else {
-        let left = (0x0100_0000 - field) as i32;
-        (-left * 256) >> 6
-    }
+    (raw << 8).cast_signed() >> 6
 }
 
 // Where a branch at an address goes.
 pub fn branch_target(pc: Addr, raw: u32) -> Addr
     ensures { result ≡ branch_target pc raw }
 {
-    let ahead = std::num::wrapping_add_u32(pc, 8);
-    move_by(ahead, branch_offset(raw))
+    move_by(pc.wrapping_add(8), branch_offset(raw))
 }
 
 // Where an offset from the pc of an instruction at an address points.
+#[tactic(auto, unfolding(crate::specs::Fields::pc_relative))]
 pub fn pc_relative(pc: Addr, n: u32) -> Addr
     ensures { result ≡ pc_relative pc n }
 {
-    let ahead = std::num::wrapping_add_u32(pc, 8);
-    std::num::wrapping_add_u32(ahead, n)
+    pc.wrapping_add(8).wrapping_add(n)
 }
 
+#[tactic(auto, unfolding(crate::specs::Fields::bs_op))]
 pub fn get_bs_op(raw: u32) -> BarrelShiftOpCode
     ensures { result ≡ bs_op raw }
 {
-    BarrelShiftOpCode::from_u32(bit_range(raw, 5, 7))
+    BarrelShiftOpCode::from(bit_range(raw, 5, 7))
 }
 
+#[tactic(auto, unfolding(crate::specs::Fields::shift_reg_by))]
 pub fn get_shift_reg_by(raw: u32) -> ShiftRegisterBy
     ensures { result ≡ shift_reg_by raw }
 {
@@ -403,46 +258,43 @@ pub fn get_shift_reg_by(raw: u32) -> ShiftRegisterBy
     ShiftRegisterBy::ByAmount(bit_range(raw, 7, 12))
 }
 
-fn added(raw: u32) -> Sign
-    ensures { result ≡ added_of raw }
-{
-    if bit(raw, 23) {
-        return Sign::Added;
-    }
-    Sign::Subtracted
-}
-
-fn shifted_register(raw: u32, sign: Sign) -> ShiftedRegister
-    ensures { result ≡ record { reg = bit_range raw 0 4; shift_by = shift_reg_by raw; bs_op = bs_op raw; added = sign } }
+fn shifted_register(raw: u32, added: Option<bool>) -> ShiftedRegister
+    ensures { result ≡ record { reg = bit_range raw 0 4; shift_by = shift_reg_by raw; bs_op = bs_op raw; added = added } }
 {
     ShiftedRegister {
         reg: bit_range(raw, 0, 4),
         shift_by: get_shift_reg_by(raw),
         bs_op: get_bs_op(raw),
-        added: sign,
+        added,
     }
 }
 
 // An immediate offset as a number of 32 bits: with U clear, its negative.
+#[tactic(auto, unfolding(crate::specs::Fields::signed_offset))]
 fn signed_offset(raw: u32, n: u32) -> u32
     ensures { result ≡ signed_offset raw n }
 {
     if bit(raw, 23) {
         return n;
     }
-    std::num::wrapping_sub_u32(0, n)
+    0u32.wrapping_sub(n)
 }
 
 // The offset of a transfer.
+#[tactic(auto, unfolding(crate::specs::Fields::ldr_str_offset, crate::specs::Fields::added_of))]
 pub fn ldr_str_offset(raw: u32) -> BarrelShifterValue
     ensures { result ≡ ldr_str_offset raw }
 {
     if bit(raw, 25) {
-        return BarrelShifterValue::ShiftedRegister(shifted_register(raw, added(raw)));
+        return BarrelShifterValue::ShiftedRegister(shifted_register(
+            raw,
+            Some(add_offset_flag(raw)),
+        ));
     }
     BarrelShifterValue::ImmediateValue(signed_offset(raw, bit_range(raw, 0, 12)))
 }
 
+#[tactic(auto, unfolding(crate::specs::Fields::ldr_str_hs_imm_offset))]
 pub fn ldr_str_hs_imm_offset(raw: u32) -> BarrelShifterValue
     ensures { result ≡ ldr_str_hs_imm_offset raw }
 {
@@ -450,20 +302,21 @@ pub fn ldr_str_hs_imm_offset(raw: u32) -> BarrelShifterValue
     BarrelShifterValue::ImmediateValue(signed_offset(raw, offset8))
 }
 
+#[tactic(auto, unfolding(crate::specs::Fields::ldr_str_hs_reg_offset, crate::specs::Fields::added_of))]
 pub fn ldr_str_hs_reg_offset(raw: u32) -> BarrelShifterValue
     ensures { result ≡ ldr_str_hs_reg_offset raw }
 {
-    let sign = added(raw);
     let register = ShiftedRegister {
         reg: bit_range(raw, 0, 4),
         shift_by: ShiftRegisterBy::ByAmount(0),
         bs_op: BarrelShiftOpCode::LSL,
-        added: sign,
+        added: Some(add_offset_flag(raw)),
     };
     BarrelShifterValue::ShiftedRegister(register)
 }
 
 // The second operand of data processing.
+#[tactic(auto, unfolding(crate::specs::Fields::operand2))]
 pub fn operand2(raw: u32) -> BarrelShifterValue
     ensures { result ≡ operand2 raw }
 {
@@ -473,7 +326,7 @@ pub fn operand2(raw: u32) -> BarrelShifterValue
             2 * bit_range(raw, 8, 12),
         );
     }
-    BarrelShifterValue::ShiftedRegister(shifted_register(raw, Sign::Unsaid))
+    BarrelShifterValue::ShiftedRegister(shifted_register(raw, None))
 }
 
 pub fn register_list(raw: u32) -> u32

@@ -1,15 +1,30 @@
--- Signed numbers of 32 bits: negation, the shift that keeps the sign, and the bits of a sign-extended field. Assumes nothing.
-use Rattle.std.proofs.Common.{◌≡◌, ℕ, zero, suc, ◌-◌, ◌*◌, ◌/◌, ◌%◌, ◌^◌, ◌<◌, ◌≤◌, true, false, ltb, ℤ, pos, negsuc, ◌+ℤ◌, ◌-ℤ◌, ◌*ℤ◌, neg_ℤ, sym, refl, ap, ◌∙◌, subst, true≢false, mul-le-mul_right, mod-eq_of_lt, arith, w32, w64, SFits, to_z, of_z, ltb-true, le-ltb}
-use lib.IntN.{+ℤ_idl, negsuc-*ℤ-pos}
+-- Signed numbers of 32 bits: the shift that keeps the sign, and the bits of a sign-extended field. Assumes nothing.
+use Rattle.std.proofs.Common.{◌≡◌, ℕ, zero, suc, Option, Some, None, SomeIff, unwrap_or, pow-add, ◌+◌, ◌-◌, ◌*◌, ◌/◌, ◌%◌, ◌^◌, ◌<◌, ◌≤◌, ltb, ℤ, pos, negsuc, neg_ℤ, sym, ap, ◌∙◌, mul-le-mul_right, add-mul, mod-lt, mod-eq_of_lt, pow_pos, arith, w32, to_z, of_z, ltb-true}
 use lib.Pow.{pow-lt}
-use lib.Signed.{lt_z, mag, shr_z}
-use mir.ValLaws.{of_z_fits, to_z-of_z, to_z_pos}
+use lib.Signed.{mag, shr_z}
+use native.Mathlib.Nat.{mul-mod_left}
+use mir.ValLaws.{to_z-of_z, to_z_pos}
 use Rattle.arm7tdmi.specs.Signed.{extended, signed_times}
+use Rattle.arm7tdmi.proofs.Rotate.{parts', shifted_up}
 use Rattle.common.proofs.Tests.{by_test}
+use Rattle.std.proofs.Math.Facts.{to_z-neg}
+use Rattle.std.proofs.lemmas.Int.{of_z-to_z}
+use borrow.Author.Tests.{ltb-false}
 
 -- ---- a power of two that has room in 32 bits
 pub pow_whole : (n : ℕ) → n < 32 → 2 ^ n % 2 ^ 32 ≡ 2 ^ n
 pow_whole n h = mod-eq_of_lt (pow-lt {j = 32} h)
+
+pub pow_out : (n : ℕ) → 32 ≤ n → 2 ^ n % 2 ^ 32 ≡ 0
+pow_out n h =
+    let e : n ≡ n - 32 + 32 = omega arith in
+    let p : 2 ^ n ≡ 2 ^ (n - 32) * 2 ^ 32 = ap (λ (k : ℕ). 2 ^ k) e ∙ pow-add 2 (n - 32) 32 in
+    rw p (mul-mod_left (2 ^ (n - 32)) (2 ^ 32))
+
+-- what is taken where there is no value
+pub or_default : (o : Option ℕ) (P : Type 0) (v d : ℕ) → SomeIff o P v → ((P → ⊥) → d ≡ v) → unwrap_or o d ≡ v
+or_default None P v d h f = f h
+or_default (Some x) P v d h f = h.1
 
 -- ---- a number below zero, and the negative of a number
 pub below_zero : (k : ℕ) → k < 2 ^ 31 → to_z w32 (of_z w32 (negsuc k)) ≡ negsuc k
@@ -19,83 +34,9 @@ pub neg_pos : (m : ℕ) → 0 < m → neg_ℤ (pos m) ≡ negsuc (m - 1)
 neg_pos zero h = absurd (let z : suc 0 ≤ 0 = h in omega arith)
 neg_pos (suc k) h = ap negsuc (omega arith)
 
--- what `-(m as i32)` is
-module _ (m : ℕ) (lo : 0 < m) (hi : m < 2 ^ 31) where
-  pub negated : pos 0 -ℤ to_z w32 m ≡ negsuc (m - 1)
-  negated = ap (λ (z : ℤ). pos 0 -ℤ z) (to_z_pos w32 m (omega arith)) ∙ +ℤ_idl (neg_ℤ (pos m)) ∙ neg_pos m lo
-
-  pub negated_fits : SFits w32 (pos 0 -ℤ to_z w32 m)
-  negated_fits = subst (SFits w32) (sym negated) (record { sfits = omega arith })
-
-  -- and held as a value
-  pub negative : to_z w32 (of_z w32 (pos 0 -ℤ to_z w32 m)) ≡ neg_ℤ (pos m)
-  negative = ap (λ (z : ℤ). to_z w32 (of_z w32 z)) negated ∙ below_zero (m - 1) (omega arith) ∙ sym (neg_pos m lo)
-
--- ---- shifted up by 8 and down by 6 with its sign: times four
-module _ (m : ℕ) (lo : 0 < m) (hi : m ≤ 2 ^ 23) where
-  times : negsuc (m - 1) *ℤ pos 256 ≡ negsuc (m * 256 - 1)
-  times = negsuc-*ℤ-pos (m - 1) 256 ∙ neg_pos (suc (m - 1) * 256) (omega arith) ∙ ap negsuc (omega arith)
-
-  scaled : to_z w32 (of_z w32 (pos 0 -ℤ to_z w32 m)) *ℤ pos 256 ≡ negsuc (m * 256 - 1)
-  scaled =
-      ap (λ (z : ℤ). to_z w32 (of_z w32 z) *ℤ pos 256) (negated m lo (omega arith)) ∙ ap (λ (z : ℤ). z *ℤ pos 256) (below_zero (m - 1) (omega arith)) ∙ times
-
-  pub scaled_fits : SFits w32 (to_z w32 (of_z w32 (pos 0 -ℤ to_z w32 m)) *ℤ pos 256)
-  scaled_fits = subst (SFits w32) (sym scaled) (record { sfits = omega arith })
-
-  pub shifted : to_z w32 (of_z w32 (shr_z (to_z w32 (of_z w32 (to_z w32 (of_z w32 (pos 0 -ℤ to_z w32 m)) *ℤ pos 256))) 64)) ≡ neg_ℤ (pos (m * 4))
-  shifted =
-      let q : (m * 256 - 1) / 64 ≡ m * 4 - 1 = omega arith in
-      ap (λ (z : ℤ). to_z w32 (of_z w32 (shr_z (to_z w32 (of_z w32 z)) 64))) scaled
-      ∙ ap (λ (z : ℤ). to_z w32 (of_z w32 (shr_z z 64))) (below_zero (m * 256 - 1) (omega arith))
-      ∙ ap (λ (k : ℕ). to_z w32 (of_z w32 (negsuc k))) q
-      ∙ below_zero (m * 4 - 1) (omega arith)
-      ∙ sym (neg_pos (m * 4) (omega arith))
-
-pub scaled_up : (n : ℕ) → n < 2 ^ 23 → to_z w32 (of_z w32 (shr_z (to_z w32 (n * 256)) 64)) ≡ pos (n * 4)
-scaled_up n h =
-    let q : n * 256 / 64 ≡ n * 4 = omega arith in
-    ap (λ (z : ℤ). to_z w32 (of_z w32 (shr_z z 64))) (to_z_pos w32 (n * 256) (omega arith))
-    ∙ ap (λ (k : ℕ). to_z w32 k) q
-    ∙ to_z_pos w32 (n * 4) (omega arith)
-
 -- ---- a signed number and its bits
 pub kept_value : (z : ℤ) → mag z < 2 ^ 31 - 1 → to_z w32 (of_z w32 z) ≡ z
 kept_value z h = to_z-of_z w32 z (record { sfits = omega arith })
-
--- the negative of a number, held as a value
-pub kept_negative : (m : ℕ) → m < 2 ^ 31 → to_z w32 (of_z w32 (neg_ℤ (pos m))) ≡ neg_ℤ (pos m)
-kept_negative zero h = to_z_pos w32 0 (omega arith)
-kept_negative (suc k) h = below_zero k (omega arith)
-
--- what the code has of a number of 32 bits: itself, and itself widened to 64
-module _ (z : ℤ) (f : SFits w32 z) where
-  pub held : to_z w32 (of_z w32 z) ≡ z
-  held = to_z-of_z w32 z f
-
-  pub widens : SFits w64 (to_z w32 (of_z w32 z))
-  widens = subst (SFits w64) (sym held) (record { sfits = let h = f.sfits in omega arith })
-
-  -- one below zero, raised by 2 ^ 32
-  module _ (t : lt_z (to_z w32 (of_z w32 z)) (pos 0) ≡ true) where
-    raised : (y : ℤ) → SFits w32 y → lt_z y (pos 0) ≡ true → y +ℤ pos (2 ^ 32) ≡ pos (of_z w32 y)
-    raised (pos n) g s = let a = ltb-true n 0 s in absurd (omega arith)
-    raised (negsuc k) g s = rw (le-ltb (2 ^ 32) (suc k) (let h = g.sfits in omega arith))
-
-    pub sum_is : to_z w64 (of_z w64 (to_z w32 (of_z w32 z))) +ℤ to_z w64 (2 ^ 32) ≡ pos (of_z w32 z)
-    sum_is = ap (λ (y : ℤ). y +ℤ pos (2 ^ 32)) (to_z-of_z w64 (to_z w32 (of_z w32 z)) widens ∙ held) ∙ raised z f (ap (λ (y : ℤ). lt_z y (pos 0)) (sym held) ∙ t)
-
-    pub sum_held : to_z w64 (of_z w64 (to_z w64 (of_z w64 (to_z w32 (of_z w32 z))) +ℤ to_z w64 (2 ^ 32))) ≡ pos (of_z w32 z)
-    sum_held = ap (λ (y : ℤ). to_z w64 (of_z w64 y)) sum_is ∙ to_z_pos w64 (of_z w32 z) (let h = (of_z_fits w32 z f).fits in omega arith)
-
-  -- another
-  module _ (t : lt_z (to_z w32 (of_z w32 z)) (pos 0) ≡ false) where
-    unraised : (y : ℤ) → lt_z y (pos 0) ≡ false → y ≡ pos (of_z w32 y)
-    unraised (pos n) s = refl
-    unraised (negsuc k) s = absurd (true≢false s)
-
-    pub up_held : to_z w32 (of_z w32 z) ≡ pos (of_z w32 z)
-    up_held = held ∙ unraised z (ap (λ (y : ℤ). lt_z y (pos 0)) (sym held) ∙ t)
 
 -- ---- a sign-extended field: its size, and its bits, for any width and scale that leave room
 module _ (w k x : ℕ) (h : x < 2 ^ w) (s : 0 < k) (r : 2 ^ w * k ≤ 2 ^ 30) where
@@ -128,3 +69,44 @@ module _ (w k x : ℕ) (h : x < 2 ^ w) (s : 0 < k) (r : 2 ^ w * k ≤ 2 ^ 30) wh
 
     pub handed_bits : of_z w32 (to_z w32 (of_z w32 z)) ≡ extended w k x
     handed_bits = rw handed extended_bits
+
+-- ---- a field of w bits, shifted up until its sign is at the top, and down by d with it: sign-extended, times k
+module _ (w d k raw : ℕ) (h : w ≤ 32) (half : 2 ^ (w - 1) * 2 ^ (32 - w) ≡ 2 ^ 31) (s : 0 < k) (r : 2 ^ w * k ≤ 2 ^ 30)
+    (up : (x : ℕ) → x * 2 ^ (32 - w) / d ≡ x * k) (down : (m : ℕ) → 0 < m → (m * 2 ^ (32 - w) - 1) / d ≡ m * k - 1) where
+  -- of the field x: without its sign, and with it
+  below : (x : ℕ) → x < 2 ^ w → x < 2 ^ (w - 1) → to_z w32 (of_z w32 (shr_z (to_z w32 (x * 2 ^ (32 - w))) d)) ≡ pos (x * k)
+  below x l g =
+      let a : (x + 1) * 2 ^ (32 - w) ≤ 2 ^ (w - 1) * 2 ^ (32 - w) = mul-le-mul_right (2 ^ (32 - w)) (omega arith) in
+      let p = pow_pos (32 - w) in
+      let e : (x + 1) * 2 ^ (32 - w) ≡ x * 2 ^ (32 - w) + 2 ^ (32 - w) = omega arith in
+      let u = up_size w k x l s r in
+      ap (λ (z : ℤ). to_z w32 (of_z w32 (shr_z z d))) (to_z_pos w32 (x * 2 ^ (32 - w)) (omega arith)) ∙ ap (λ (n : ℕ). to_z w32 n) (up x) ∙ to_z_pos w32 (x * k) (omega arith)
+
+  above : (x : ℕ) → x < 2 ^ w → 2 ^ (w - 1) ≤ x → to_z w32 (of_z w32 (shr_z (to_z w32 (x * 2 ^ (32 - w))) d)) ≡ neg_ℤ (pos ((2 ^ w - x) * k))
+  above x l g =
+      let m = 2 ^ w - x in
+      let a : 2 ^ (w - 1) * 2 ^ (32 - w) ≤ x * 2 ^ (32 - w) = mul-le-mul_right (2 ^ (32 - w)) g in
+      let b : 1 * 2 ^ (32 - w) ≤ m * 2 ^ (32 - w) = mul-le-mul_right (2 ^ (32 - w)) (omega arith) in
+      let p = pow_pos (32 - w) in
+      let q = parts' w h in
+      let t : m + x ≡ 2 ^ w = omega arith in
+      let e : m * 2 ^ (32 - w) + x * 2 ^ (32 - w) ≡ 2 ^ 32 = sym (add-mul m x (2 ^ (32 - w))) ∙ ap (λ (n : ℕ). n * 2 ^ (32 - w)) t ∙ q in
+      let f : x * 2 ^ (32 - w) ≡ 2 ^ 32 - suc (m * 2 ^ (32 - w) - 1) = omega arith in
+      let o = down_some w k x l s r in
+      let c = down_size w k x l s r in
+      ap (λ (n : ℕ). to_z w32 (of_z w32 (shr_z (to_z w32 n) d))) f
+      ∙ ap (λ (z : ℤ). to_z w32 (of_z w32 (shr_z z d))) (to_z-neg w32 (m * 2 ^ (32 - w) - 1) (omega arith))
+      ∙ ap (λ (n : ℕ). to_z w32 (of_z w32 (negsuc n))) (down m (omega arith))
+      ∙ below_zero (m * k - 1) (omega arith)
+      ∙ sym (neg_pos (m * k) o)
+
+  either : (x : ℕ) → x < 2 ^ w → to_z w32 (of_z w32 (shr_z (to_z w32 (x * 2 ^ (32 - w))) d)) ≡ signed_times w k x
+  either x l = by_test (ltb x (2 ^ (w - 1))) (λ t. rw t (below x l (ltb-true _ _ t))) (λ t. rw t (above x l (ltb-false _ _ t)))
+
+  pub sign_kept : {z : ℤ} → z ≡ to_z w32 (raw * 2 ^ (32 - w) % 2 ^ 32) → to_z w32 (of_z w32 (shr_z (to_z w32 (of_z w32 z)) d)) ≡ signed_times w k (raw / 1 % 2 ^ w)
+  sign_kept e =
+      let q : raw ≡ raw / 1 = omega arith in
+      ap (λ (y : ℤ). to_z w32 (of_z w32 (shr_z (to_z w32 (of_z w32 y)) d))) e
+      ∙ ap (λ (n : ℕ). to_z w32 (of_z w32 (shr_z (to_z w32 n) d))) (of_z-to_z w32 (raw * 2 ^ (32 - w) % 2 ^ 32) (omega arith) ∙ shifted_up raw w h)
+      ∙ either (raw % 2 ^ w) (mod-lt raw (pow_pos w))
+      ∙ ap (λ (n : ℕ). signed_times w k (n % 2 ^ w)) q

@@ -19,28 +19,24 @@ reg_bytes = text "r0r1r2r3r4r5r6r7r8r9r1fpipsplrpc"
 abbrev pair : List ℕ → ℕ → List ℕ
 pair l n = get_or l (2 * n) 0 ∷ get_or l (2 * n + 1) 0 ∷ []
 
-pub reg_none : (n : ℕ) → 16 ≤ n → [] ≡ reg_string n
+pub reg_none : (n : ℕ) → 16 ≤ n → reg_string n ≡ []
 unfolding reg_string reg_names
-reg_none n h = sym (get_or-eq_default reg_names [] {n = n} h)
+reg_none n h = get_or-eq_default reg_names [] {n = n} h
 
-pub reg_ten : pair reg_bytes 10 ++ text "0" ≡ reg_string 10
-unfolding reg_string reg_names
-reg_ten = refl
-
-pub reg_pair : (n : ℕ) → n < 16 → (n ≡ 10 → ⊥) → pair reg_bytes n ≡ reg_string n
+pub reg_written : (n : ℕ) → n < 16 → reg_string n ≡ pair reg_bytes n ++ cond (eqb n 10) (text "0") []
 unfolding reg_string reg_names same
-reg_pair n h e = rw (ne_eqb n 10 e) at (agreed (λ n. cond (eqb n 10) (text "r10") (pair reg_bytes n)) reg_string 16 refl n h)
+reg_written n h = sym (agreed (λ n. pair reg_bytes n ++ cond (eqb n 10) (text "0") []) reg_string 16 refl n h)
 
 abbrev pub cond_bytes : List ℕ
 cond_bytes = text "eqnecsccmiplvsvchilsgeltgtle"
 
-pub cond_none : (n : ℕ) → 14 ≤ n → [] ≡ cond_text n
+pub cond_none : (n : ℕ) → 14 ≤ n → cond_text n ≡ []
 unfolding cond_text cond_names
-cond_none n h = by_test (eqb n 14) (λ e. rw (eqb-true n 14 e)) (λ e. let d = eqb-false n 14 e in sym (get_or-eq_default cond_names [] {n = n} (omega arith)))
+cond_none n h = by_test (eqb n 14) (λ e. rw (eqb-true n 14 e)) (λ e. let d = eqb-false n 14 e in get_or-eq_default cond_names [] {n = n} (omega arith))
 
-pub cond_pair : (n : ℕ) → n < 14 → pair cond_bytes n ≡ cond_text n
+pub cond_pair : (n : ℕ) → n < 14 → cond_text n ≡ pair cond_bytes n
 unfolding cond_text cond_names same
-cond_pair n h = agreed (pair cond_bytes) cond_text 14 refl n h
+cond_pair n h = sym (agreed (pair cond_bytes) cond_text 14 refl n h)
 
 -- ---- what is written is read back
 pub reg_back : (n : ℕ) → n < 16 → reg_named (reg_string n) ≡ n

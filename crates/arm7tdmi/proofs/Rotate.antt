@@ -1,5 +1,9 @@
 -- A word turned right: its parts, and that it is turned back. Assumes nothing.
-use Rattle.std.proofs.Common.{◌≡◌, ℕ, ◌+◌, ◌-◌, ◌*◌, ◌/◌, ◌%◌, ◌^◌, ◌<◌, ◌≤◌, sym, ap, ◌∙◌, add-zero, mul-le-mul_right, mod-lt, mod-eq_of_lt, div-lt_iff_lt-mul, div-add-mod', arith, pow_pos, pow-add}
+use borrow.Author.Tests.{eqb-false}
+use Rattle.common.proofs.Tests.{by_test}
+use Rattle.std.specs.Int.Bits.{or_shifted_r}
+use lib.Bits.{or_self}
+use Rattle.std.proofs.Common.{eqb, eqb-true, ◌≡◌, ℕ, ◌+◌, ◌-◌, ◌*◌, ◌/◌, ◌%◌, ◌^◌, ◌<◌, ◌≤◌, bit_or, sym, ap, ◌∙◌, add-zero, mul-le-mul_right, mod-lt, mod-eq_of_lt, div-lt_iff_lt-mul, div-add-mod', arith, pow_pos, pow-add}
 use lib.Pow.{mod-pow-add, shl-shr}
 use native.Mathlib.Nat.{add-mul-div_right, add-mul-mod_self_right, div-eq_of_lt, mul-mod_left}
 
@@ -44,3 +48,17 @@ shifted_up v k h =
 
 pub turned_lt : (v k : ℕ) → k ≤ 32 → v < 2 ^ 32 → v / 2 ^ k + v % 2 ^ k * 2 ^ (32 - k) < 2 ^ 32
 turned_lt v k h l = rw (parts' k h) at (turn_lt (2 ^ k) (2 ^ (32 - k)) v (pow_pos k) (pow_pos (32 - k)) (rw (parts k h) l))
+
+-- what `rotate_right` of std is, said as a sum
+pub turned_or : (v n : ℕ) → v < 2 ^ 32 → bit_or (v / 2 ^ (n % 32)) (v * 2 ^ ((32 - n % 32) % 32) % 2 ^ 32) ≡ v / 2 ^ (n % 32) + v % 2 ^ (n % 32) * 2 ^ (32 - n % 32)
+turned_or v n l = by_test (eqb (n % 32) 0)
+    (λ e.
+    let m : v * 1 % 2 ^ 32 ≡ v = omega arith in
+    let d : v / 1 ≡ v = omega arith in
+    rw (eqb-true _ _ e, m, d, or_self) (omega arith))
+    (λ e.
+    let d = eqb-false _ _ e in
+    let h : n % 32 ≤ 32 = omega arith in
+    let k : (32 - n % 32) % 32 ≡ 32 - n % 32 = omega arith in
+    let q = top (2 ^ (n % 32)) (2 ^ (32 - n % 32)) v (pow_pos (n % 32)) (pow_pos (32 - n % 32)) (rw (parts (n % 32) h) l) in
+    rw (k, shifted_up v (n % 32) h, or_shifted_r (v % 2 ^ (n % 32)) (32 - n % 32) (v / 2 ^ (n % 32)) q) (omega arith))

@@ -1,5 +1,5 @@
 -- Opcodes, shifts and operands. Assumes nothing.
-use Rattle.std.specs.Prelude.{ℕ, ◌+◌, ◌-◌, ◌*◌, ◌/◌, ◌%◌, ◌^◌, Bool, true, false, cond, List, [], ◌∷◌, ◌==◌, slice_index_or}
+use Rattle.std.specs.Prelude.{ℕ, ◌+◌, ◌-◌, ◌*◌, ◌/◌, ◌%◌, ◌^◌, Bool, true, false, cond, List, [], ◌∷◌, ◌==◌, Option, Some, None, slice_index_or}
 use Rattle.arm7tdmi.specs.declared.Form.{Form}
 use Rattle.arm7tdmi.specs.declared.Form.TheVariants.{Bench, Sheet}
 use Rattle.arm7tdmi.specs.declared.alu.AluOpCode.{AluOpCode}
@@ -10,8 +10,6 @@ use Rattle.arm7tdmi.specs.declared.alu.Amount.{Amount}
 use Rattle.arm7tdmi.specs.declared.alu.Amount.TheVariants.{Places, Rrx}
 use Rattle.arm7tdmi.specs.declared.alu.BarrelShifterValue.{BarrelShifterValue}
 use Rattle.arm7tdmi.specs.declared.alu.BarrelShifterValue.TheVariants as Value
-use Rattle.arm7tdmi.specs.declared.alu.Decoded.{Decoded}
-use Rattle.arm7tdmi.specs.declared.alu.Decoded.TheVariants as D
 
 -- the opcodes in the order of their numbers, and the opcode of a number of four bits
 abbrev pub alu_op_codes : List AluOpCode
@@ -101,7 +99,7 @@ turned v k = v / 2 ^ k + v % 2 ^ k * 2 ^ (32 - k)
 unfoldable pub rotate_right : ℕ → ℕ → ℕ
 rotate_right v n = turned v (n % 32)
 
-unfoldable pub decode_rotated_immediate : BarrelShifterValue → Decoded
-decode_rotated_immediate (Value.ImmediateValue v) = D.Nothing
-decode_rotated_immediate (Value.RotatedImmediate v n) = D.Value (rotate_right v n)
-decode_rotated_immediate (Value.ShiftedRegister r) = D.Nothing
+unfoldable pub decode_rotated_immediate : BarrelShifterValue → Option ℕ
+decode_rotated_immediate (Value.ImmediateValue v) = None
+decode_rotated_immediate (Value.RotatedImmediate v n) = Some (rotate_right v n)
+decode_rotated_immediate (Value.ShiftedRegister r) = None

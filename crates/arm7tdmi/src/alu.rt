@@ -1,10 +1,10 @@
 // Opcodes, shifts and operands.
-ghost use Rattle.std.specs.Prelude.{◌≡◌, ◌%◌, ◌<◌};
+ghost use Rattle.std.specs.Prelude.{◌≡◌};
 ghost use Rattle.arm7tdmi.specs.Alu.{alu_op_code, alu_number, is_setting_flags, barrel_shift_op_code, barrel_shift_number, amount_of_zero, sheet_amount, amount_of, places, rotate_right, decode_rotated_immediate};
 
 use crate::Form;
 
-#[derive(Clone, Copy)]
+#[derive(Clone, Copy, Debug, PartialEq, Eq)]
 pub enum AluOpCode {
     AND,
     EOR,
@@ -24,13 +24,13 @@ pub enum AluOpCode {
     MVN,
 }
 
-impl AluOpCode {
-    // The opcode of a number, by its lowest four bits.
-    pub fn from_u32(n: u32) -> Self
-        ensures { result ≡ alu_op_code n }
-    {
-        let k = n % 16;
-        match k {
+// The opcode of a number, by its lowest four bits.
+#[tactic(auto, unfolding(crate::specs::Alu::alu_op_code))]
+impl From<u32> for AluOpCode {
+    ghost from_gives = { λ n x. x ≡ alu_op_code n };
+
+    fn from(n: u32) -> Self {
+        match n % 16 {
             0 => AluOpCode::AND,
             1 => AluOpCode::EOR,
             2 => AluOpCode::SUB,
@@ -49,55 +49,30 @@ impl AluOpCode {
             _ => AluOpCode::MVN,
         }
     }
+}
 
-    pub fn number(self) -> u32
-        ensures { result ≡ alu_number self }
-    {
-        match self {
-            AluOpCode::AND => 0,
-            AluOpCode::EOR => 1,
-            AluOpCode::SUB => 2,
-            AluOpCode::RSB => 3,
-            AluOpCode::ADD => 4,
-            AluOpCode::ADC => 5,
-            AluOpCode::SBC => 6,
-            AluOpCode::RSC => 7,
-            AluOpCode::TST => 8,
-            AluOpCode::TEQ => 9,
-            AluOpCode::CMP => 10,
-            AluOpCode::CMN => 11,
-            AluOpCode::ORR => 12,
-            AluOpCode::MOV => 13,
-            AluOpCode::BIC => 14,
-            AluOpCode::MVN => 15,
-        }
-    }
+// An opcode's number, in the order of the enum.
+impl From<AluOpCode> for u32 {
+    ghost from_gives = { λ x n. n ≡ alu_number x };
 
-    pub fn is_setting_flags(self) -> bool
-        ensures { result ≡ is_setting_flags self }
-    {
-        match self {
-            AluOpCode::AND => false,
-            AluOpCode::EOR => false,
-            AluOpCode::SUB => false,
-            AluOpCode::RSB => false,
-            AluOpCode::ADD => false,
-            AluOpCode::ADC => false,
-            AluOpCode::SBC => false,
-            AluOpCode::RSC => false,
-            AluOpCode::TST => true,
-            AluOpCode::TEQ => true,
-            AluOpCode::CMP => true,
-            AluOpCode::CMN => true,
-            AluOpCode::ORR => false,
-            AluOpCode::MOV => false,
-            AluOpCode::BIC => false,
-            AluOpCode::MVN => false,
-        }
+    fn from(x: AluOpCode) -> u32 {
+        x as u32
     }
 }
 
-#[derive(Clone, Copy)]
+impl AluOpCode {
+    // Whether it has no result but the flags.
+    pub fn is_setting_flags(self) -> bool
+        ensures { result ≡ is_setting_flags self }
+    {
+        matches!(
+            self,
+            AluOpCode::TST | AluOpCode::TEQ | AluOpCode::CMP | AluOpCode::CMN
+        )
+    }
+}
+
+#[derive(Clone, Copy, Debug, PartialEq, Eq)]
 pub enum BarrelShiftOpCode {
     LSL,
     LSR,
@@ -105,39 +80,38 @@ pub enum BarrelShiftOpCode {
     ROR,
 }
 
-impl BarrelShiftOpCode {
-    // The shift of a number, by its lowest two bits.
-    pub fn from_u32(n: u32) -> Self
-        ensures { result ≡ barrel_shift_op_code n }
-    {
-        let k = n % 4;
-        match k {
+// The shift of a number, by its lowest two bits.
+#[tactic(auto, unfolding(crate::specs::Alu::barrel_shift_op_code))]
+impl From<u32> for BarrelShiftOpCode {
+    ghost from_gives = { λ n x. x ≡ barrel_shift_op_code n };
+
+    fn from(n: u32) -> Self {
+        match n % 4 {
             0 => BarrelShiftOpCode::LSL,
             1 => BarrelShiftOpCode::LSR,
             2 => BarrelShiftOpCode::ASR,
             _ => BarrelShiftOpCode::ROR,
         }
     }
+}
 
-    pub fn number(self) -> u32
-        ensures { result ≡ barrel_shift_number self }
-    {
-        match self {
-            BarrelShiftOpCode::LSL => 0,
-            BarrelShiftOpCode::LSR => 1,
-            BarrelShiftOpCode::ASR => 2,
-            BarrelShiftOpCode::ROR => 3,
-        }
+// A shift's number, in the order of the enum.
+impl From<BarrelShiftOpCode> for u32 {
+    ghost from_gives = { λ x n. n ≡ barrel_shift_number x };
+
+    fn from(x: BarrelShiftOpCode) -> u32 {
+        x as u32
     }
+}
 
+impl BarrelShiftOpCode {
     // What an amount of 0 means by the data sheet.
     fn amount_of_zero(self) -> Amount
         ensures { result ≡ amount_of_zero self }
     {
         match self {
             BarrelShiftOpCode::LSL => Amount::Places(0),
-            BarrelShiftOpCode::LSR => Amount::Places(32),
-            BarrelShiftOpCode::ASR => Amount::Places(32),
+            BarrelShiftOpCode::LSR | BarrelShiftOpCode::ASR => Amount::Places(32),
             BarrelShiftOpCode::ROR => Amount::Rrx,
         }
     }
@@ -153,6 +127,7 @@ impl BarrelShiftOpCode {
     }
 
     // S10: what the immediate amount n means; the bench has the field's value.
+    #[tactic(auto, unfolding(crate::specs::Alu::amount_of))]
     pub fn amount(self, form: Form, n: u32) -> Amount
         ensures { result ≡ amount_of form self n }
     {
@@ -163,8 +138,9 @@ impl BarrelShiftOpCode {
     }
 }
 
-// What the immediate amount of a shift means: so many places, or that the shift is RRX.
-#[derive(Clone, Copy)]
+// What the immediate amount of a shift means: so many places, or that the shift is RRX. No `Option`, since RRX is a shift of its own and not the lack
+// of an amount.
+#[derive(Clone, Copy, Debug, PartialEq, Eq)]
 pub enum Amount {
     Places(u32),
     Rrx,
@@ -182,63 +158,47 @@ impl Amount {
     }
 }
 
-#[derive(Clone, Copy)]
+#[derive(Clone, Copy, Debug, PartialEq, Eq)]
 pub enum ShiftRegisterBy {
     ByAmount(u32),
     ByRegister(u32),
 }
 
-// Whether a register is added to a base or subtracted from it; the Rust's `Option<bool>`.
-#[derive(Clone, Copy)]
-pub enum Sign {
-    Added,
-    Subtracted,
-    Unsaid,
-}
-
-#[derive(Clone, Copy)]
+// A shifted register; as an offset it says whether it is added to the base or subtracted from it.
+#[derive(Clone, Copy, Debug, PartialEq, Eq)]
 pub struct ShiftedRegister {
     pub reg: u32,
     pub shift_by: ShiftRegisterBy,
     pub bs_op: BarrelShiftOpCode,
-    pub added: Sign,
+    pub added: Option<bool>,
 }
 
-#[derive(Clone, Copy)]
+#[derive(Clone, Copy, Debug, PartialEq, Eq)]
 pub enum BarrelShifterValue {
     ImmediateValue(u32),
     RotatedImmediate(u32, u32),
     ShiftedRegister(ShiftedRegister),
 }
 
-// What a value comes to where it is a rotated immediate.
-#[derive(Clone, Copy)]
-pub enum Decoded {
-    Value(u32),
-    Nothing,
-}
-
-// A word turned right by n places.
+// A word turned right by n places: std's method, with its `|` and `<<` said as a sum.
+#[tactic(auto, using(crate::proofs::Rotate::turned_or), unfolding(crate::specs::Alu::rotate_right))]
 pub fn rotate_right(v: u32, n: u32) -> u32
     ensures { result ≡ rotate_right v n }
 {
-    let k = n % 32;
-    if k == 0 {
-        return v;
-    }
-    (v >> k) + (v << (32 - k))
+    v.rotate_right(n)
 }
 
 impl BarrelShifterValue {
-    pub fn decode_rotated_immediate(self) -> Decoded
+    // What a value comes to where it is a rotated immediate.
+    #[tactic(auto, unfolding(crate::specs::Alu::decode_rotated_immediate))]
+    pub fn decode_rotated_immediate(self) -> Option<u32>
         ensures { result ≡ decode_rotated_immediate self }
     {
         match self {
-            BarrelShifterValue::ImmediateValue(_) => Decoded::Nothing,
             BarrelShifterValue::RotatedImmediate(immediate, rotate) => {
-                Decoded::Value(rotate_right(immediate, rotate))
+                Some(rotate_right(immediate, rotate))
             }
-            BarrelShifterValue::ShiftedRegister(_) => Decoded::Nothing,
+            _ => None,
         }
     }
 }

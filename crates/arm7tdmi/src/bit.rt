@@ -6,30 +6,21 @@ ghost use Rattle.common.specs.Bits.{bit, bit_range};
 pub fn pow2(n: u32) -> u32
     ensures { result ≡ 2 ^ n % 2 ^ 32 }
 {
-    if 32 <= n {
-        return 0;
-    }
-    1 << n
+    1u32.checked_shl(n).unwrap_or(0)
 }
 
 // The bits from n on.
 fn high(raw: u32, n: u32) -> u32
     ensures { result ≡ raw / 2 ^ n }
 {
-    if 32 <= n {
-        return 0;
-    }
-    raw >> n
+    raw.checked_shr(n).unwrap_or(0)
 }
 
 // The lowest n bits.
 fn low(raw: u32, n: u32) -> u32
     ensures { result ≡ raw % 2 ^ n }
 {
-    if 32 <= n {
-        return raw;
-    }
-    raw % pow2(n)
+    raw.checked_rem(pow2(n)).unwrap_or(raw)
 }
 
 // Bit n.

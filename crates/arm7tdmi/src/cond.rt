@@ -1,13 +1,14 @@
 // Conditions, for both sets; the Rust has them in arm/mod.rs.
 ghost use Rattle.std.specs.Prelude.{◌≡◌, ◌≤◌};
-ghost use Rattle.text.specs.Wrote.{Wrote};
+ghost use Rattle.text.specs.Puts.{puts};
 ghost use Rattle.arm7tdmi.specs.Cond.{arm_cond, arm_cond_number};
 ghost use Rattle.arm7tdmi.specs.Names.{cond_text, cond_named};
 
-use text::put::put_byte;
-use text::read::{pack, position};
+use text::put::Writer;
+use text::read::{index_of, pack};
 
-#[derive(Clone, Copy)]
+// The sixteen values of the field; the last is a value like the others, as in the Rust, and what refuses it looks at the word.
+#[derive(Clone, Copy, Debug, PartialEq, Eq)]
 pub enum ArmCond {
     EQ,
     NE,
@@ -27,13 +28,13 @@ pub enum ArmCond {
     Invalid,
 }
 
-impl ArmCond {
-    // The condition of a number, by its lowest four bits.
-    pub fn from_u32(n: u32) -> Self
-        ensures { result ≡ arm_cond n }
-    {
-        let k = n % 16;
-        match k {
+// The condition of a number, by its lowest four bits.
+#[tactic(auto, unfolding(crate::specs::Cond::arm_cond))]
+impl From<u32> for ArmCond {
+    ghost from_gives = { λ n x. x ≡ arm_cond n };
+
+    fn from(n: u32) -> Self {
+        match n % 16 {
             0 => ArmCond::EQ,
             1 => ArmCond::NE,
             2 => ArmCond::HS,
@@ -52,42 +53,28 @@ impl ArmCond {
             _ => ArmCond::Invalid,
         }
     }
+}
 
-    pub fn number(self) -> u32
-        ensures { result ≡ arm_cond_number self }
-    {
-        match self {
-            ArmCond::EQ => 0,
-            ArmCond::NE => 1,
-            ArmCond::HS => 2,
-            ArmCond::LO => 3,
-            ArmCond::MI => 4,
-            ArmCond::PL => 5,
-            ArmCond::VS => 6,
-            ArmCond::VC => 7,
-            ArmCond::HI => 8,
-            ArmCond::LS => 9,
-            ArmCond::GE => 10,
-            ArmCond::LT => 11,
-            ArmCond::GT => 12,
-            ArmCond::LE => 13,
-            ArmCond::AL => 14,
-            ArmCond::Invalid => 15,
-        }
+// A condition's number, in the order of the enum.
+impl From<ArmCond> for u32 {
+    ghost from_gives = { λ x n. n ≡ arm_cond_number x };
+
+    fn from(x: ArmCond) -> u32 {
+        x as u32
     }
 }
 
 // The name of a condition; nothing for AL and for a number past it.
-pub fn put_cond(buf: &mut [u8], at: usize, n: u32) -> usize
-    ensures { Wrote buf.old at (cond_text n) buf.new result }
+#[tactic(auto, using(text::proofs::Puts::written, crate::proofs::Names::cond_none, crate::proofs::Names::cond_pair))]
+pub fn put_cond(out: &mut Writer<'_>, n: u32)
+    ensures { out.new ≡ puts out.old (cond_text n) }
 {
-    if 14 <= n {
-        return at;
+    if n < 14 {
+        let names = b"eqnecsccmiplvsvchilsgeltgtle";
+        let i = 2 * n as usize;
+        out.put_byte(names[i]);
+        out.put_byte(names[i + 1]);
     }
-    let names = b"eqnecsccmiplvsvchilsgeltgtle";
-    let i = 2 * n as usize;
-    let at = put_byte(buf, at, names[i]);
-    put_byte(buf, at, names[i + 1])
 }
 
 // The conditions' names, packed.
@@ -96,9 +83,9 @@ const COND_NAMES: [u64; 15] = [
     0x7467, 0x656c, 0,
 ];
 
-// The condition that a word names, or 15.
+// The condition that a word names, or 15: as `read_reg`.
 pub fn read_cond(s: &[u8]) -> u32
     ensures { (result ≡ cond_named s.now) × (result ≤ 15) }
 {
-    position(&COND_NAMES, pack(s)) as u32
+    index_of(&COND_NAMES, pack(s)) as u32
 }

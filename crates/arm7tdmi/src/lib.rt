@@ -1,46 +1,44 @@
 // What words of both sets are made of: names, numbers, opcodes and operands. The files are named as in the Rust original.
-#![tactic(auto)]
+#![tactic(auto, using(text::proofs::Puts::written), unfolding(text::specs::Puts::puts))]
 
 ghost use Rattle.std.specs.Prelude.{◌≡◌, ◌+◌, ◌*◌, ◌^◌, ◌≤◌, map};
 ghost use Rattle.common.specs.Lists.{find};
 ghost use Rattle.text.specs.Word.{packed};
-ghost use Rattle.text.specs.Wrote.{Wrote};
+ghost use Rattle.text.specs.Puts.{puts};
 ghost use Rattle.arm7tdmi.specs.Names.{reg_names, reg_string, reg_named};
 
-use text::put::put_byte;
+use text::put::Writer;
 use text::read::pack;
 
 pub mod alu;
 pub mod bit;
 pub mod cond;
+pub mod kinds;
 pub mod memory;
 pub mod psr;
 
 // Which line is meant: the bench viewer's, or the data sheet's.
-#[derive(Clone, Copy)]
+#[derive(Clone, Copy, Debug, PartialEq, Eq)]
 pub enum Form {
     Bench,
     Sheet,
 }
 
 // The name of a register, `reg_string` of the Rust; nothing for a number past 15.
-pub fn put_reg(buf: &mut [u8], at: usize, reg: u32) -> usize
-    ensures { Wrote buf.old at (reg_string reg) buf.new result }
+#[tactic(auto, using(text::proofs::Puts::written, crate::proofs::Names::reg_none, crate::proofs::Names::reg_written))]
+pub fn put_reg(out: &mut Writer<'_>, reg: u32)
+    ensures { out.new ≡ puts out.old (reg_string reg) }
 {
-    if 16 <= reg {
-        return at;
+    if reg < 16 {
+        let names = b"r0r1r2r3r4r5r6r7r8r9r1fpipsplrpc";
+        let i = 2 * reg as usize;
+        out.put_byte(names[i]);
+        out.put_byte(names[i + 1]);
+        out.put_if(reg == 10, b'0');
     }
-    let names = b"r0r1r2r3r4r5r6r7r8r9r1fpipsplrpc";
-    let i = 2 * reg as usize;
-    let at = put_byte(buf, at, names[i]);
-    let at = put_byte(buf, at, names[i + 1]);
-    if reg == 10 {
-        return put_byte(buf, at, b'0');
-    }
-    at
 }
 
-// The register whose packed name is `r` and then m, or 16.
+// The register whose packed name is `r` and then m, or 16, as `read_reg` answers.
 fn numbered_reg(m: u64) -> u32
     ensures { (result ≡ find (m * 2 ^ 8 + 0x72) (map packed reg_names)) × (result ≤ 16) }
 {
@@ -74,7 +72,7 @@ fn named_reg(n: u64) -> u32
     }
 }
 
-// The register that a word names, or 16.
+// The register that a word names, or 16. No Option: a candidate takes 16 as any number, since a word that a wrong name gives does not print the line.
 pub fn read_reg(s: &[u8]) -> u32
     ensures { (result ≡ reg_named s.now) × (result ≤ 16) }
 {

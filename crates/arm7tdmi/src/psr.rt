@@ -2,7 +2,9 @@
 ghost use Rattle.std.specs.Prelude.{◌≡◌};
 ghost use Rattle.common.specs.Bits.{bit};
 
-#[derive(Clone, Copy)]
+use crate::bit::bit;
+
+#[derive(Clone, Copy, Debug, PartialEq, Eq)]
 pub struct RegPSR {
     pub raw: u32,
 }
@@ -17,24 +19,24 @@ impl RegPSR {
     pub fn N(self) -> bool
         ensures { result ≡ bit self.raw 31 }
     {
-        crate::bit::bit(self.raw, 31)
+        bit(self.raw, 31)
     }
 
     pub fn Z(self) -> bool
         ensures { result ≡ bit self.raw 30 }
     {
-        crate::bit::bit(self.raw, 30)
+        bit(self.raw, 30)
     }
 
     pub fn C(self) -> bool
         ensures { result ≡ bit self.raw 29 }
     {
-        crate::bit::bit(self.raw, 29)
+        bit(self.raw, 29)
     }
 
     pub fn V(self) -> bool
         ensures { result ≡ bit self.raw 28 }
     {
-        crate::bit::bit(self.raw, 28)
+        bit(self.raw, 28)
     }
 }

@@ -7,9 +7,11 @@ ghost use Rattle.reading.specs.Parts.{flag};
 ghost use Rattle.text.specs.Word.{word, after};
 
 use crate::operand::operand;
-use crate::parts::register;
 use arm7tdmi::Form;
+use reading::parts::register;
 use text::read::next_word;
+
+// The opcodes are told by their numbers, as the mnemonic's bits have them: one comparison tells four of them, and an AluOpCode's match would name each.
 
 // tst, teq, cmp and cmn.
 fn is_test(op: u64) -> bool
@@ -53,12 +55,12 @@ fn rn_in(form: Form, op: u64, one: &[u8], two: &[u8]) -> u64
     ensures { (result ≡ cond (is_three op) (reg_named (word two.now)) (cond (shows_rd form op) 0 (reg_named (word one.now)))) × (result ≤ 16) }
 {
     if is_three(op) {
-        return register(two);
+        return register(two) as u64;
     }
     if shows_rd(form, op) {
         return 0;
     }
-    register(one)
+    register(one) as u64
 }
 
 // Rd, from word one.
@@ -66,7 +68,7 @@ fn rd_in(form: Form, op: u64, one: &[u8]) -> u64
     ensures { (result ≡ cond (shows_rd form op) (reg_named (word one.now)) 0) × (result ≤ 16) }
 {
     if shows_rd(form, op) {
-        return register(one);
+        return register(one) as u64;
     }
     0
 }

@@ -2,20 +2,20 @@
 ghost use Rattle.std.specs.Prelude.{◌≡◌, ◌≤◌, ◌<◌, ◌^◌};
 ghost use Rattle.arm_candidate.specs.CandidateOperand.{shift_named, by_named, shift_of, shifted_of, immediate_of, operand_of};
 
-use crate::parts::{decimal, is_number, register};
+use crate::parts::is_number;
 use arm7tdmi::alu::rotate_right;
 use arm7tdmi::read_reg;
-use reading::parts::amount_field;
-use text::read::{first_word, next_word, pack, position, read_dec};
+use reading::parts::{amount_field, register};
+use text::read::{first_word, index_of, next_word, pack, read_number};
 
 // The shifts' names, packed.
 const SHIFT_NAMES: [u64; 5] = [0x6c736c, 0x72736c, 0x727361, 0x726f72, 0x787272];
 
-// The shift that a word names, 4 for rrx, or 5.
+// The shift that a word names, 4 for rrx, or 5: as `read_reg` of arm7tdmi.
 fn shift_named(w: &[u8]) -> u64
     ensures { (result ≡ shift_named w.now) × (result ≤ 5) }
 {
-    position(&SHIFT_NAMES, pack(w)) as u64
+    index_of(&SHIFT_NAMES, pack(w)) as u64
 }
 
 // By how much: an amount of five bits, or a register.
@@ -23,7 +23,7 @@ fn by_named(w: &[u8]) -> u64
     ensures { (result ≡ by_named w.now) × (result < 2 ^ 13) }
 {
     if is_number(w) {
-        return amount_field(decimal(w)) * 128;
+        return amount_field(read_number::<10>(w) as u64) * 128;
     }
     16 + read_reg(w) as u64 * 256
 }
@@ -43,7 +43,7 @@ fn shift_of(name: &[u8], by: &[u8]) -> u64
 pub fn shifted(l: &[u8]) -> u64
     ensures { (result ≡ shifted_of l.now) × (result < 2 ^ 15) }
 {
-    let reg = register(l);
+    let reg = register(l) as u64;
     let behind = next_word(l);
     let shift = first_word(behind);
     if shift.len() == 0 {
@@ -53,17 +53,15 @@ pub fn shifted(l: &[u8]) -> u64
     reg + shift_of(shift, by)
 }
 
-// The twelve bits of the lowest rotation that has a value, or 0.
+// The twelve bits of the lowest rotation that has a value, or 0: a candidate takes them as they are, and then prints another line.
 fn immediate(v: u32) -> u64
     ensures { (result ≡ immediate_of v) × (result < 2 ^ 12) }
 {
-    let mut r: u32 = 0;
-    while r < 16 {
+    for r in 0..16u32 {
         let byte = rotate_right(v, 32 - 2 * r);
         if byte < 256 {
             return (r * 256 + byte) as u64;
         }
-        r += 1;
     }
     0
 }
@@ -74,7 +72,7 @@ pub fn operand(l: &[u8]) -> u64
 {
     let w = first_word(l);
     if is_number(w) {
-        return 0x0200_0000 + immediate(read_dec(w));
+        return 0x0200_0000 + immediate(read_number::<10>(w));
     }
     shifted(l)
 }

@@ -9,10 +9,10 @@ ghost use Rattle.common.specs.Bits.{bit};
 ghost use Rattle.text.specs.Word.{after, has, word};
 
 use crate::operand::operand;
-use crate::parts::{byte_at, register};
+use crate::parts::byte_at;
 use arm7tdmi::Form;
-use reading::parts::{as_flag, hexadecimal};
-use text::read::{behind_word, contains, next_word};
+use reading::parts::{as_flag, hexadecimal, register};
+use text::read::{behind_word, next_word};
 
 // The field of a branch at an address to a target.
 fn field_of(pc: u32, target: u64) -> u64
@@ -46,7 +46,7 @@ pub fn bx_candidate(form: Form, c: u64, line: &[u8]) -> u64
     requires { c ≤ 15 }
     ensures { (pc b : ℕ) → result ≡ bx_cand form pc b c line.now }
 {
-    cond_shown(form, c) * 0x1000_0000 + 0x012f_ff10 + register(next_word(line))
+    cond_shown(form, c) * 0x1000_0000 + 0x012f_ff10 + register(next_word(line)) as u64
 }
 
 // mrs. Bit 22 is set where there is no C, of CPSR.
@@ -54,9 +54,9 @@ pub fn mrs_candidate(c: u64, line: &[u8]) -> u64
     requires { c ≤ 15 }
     ensures { (form : Form) (pc b : ℕ) → result ≡ mrs_cand form pc b c line.now }
 {
-    let current = contains(line, b'C');
+    let current = line.contains(&b'C');
     let saved = as_flag(!current);
-    c * 0x1000_0000 + 0x010f_0000 + saved * 0x0040_0000 + register(next_word(line)) * 0x1000
+    c * 0x1000_0000 + 0x010f_0000 + saved * 0x0040_0000 + register(next_word(line)) as u64 * 0x1000
 }
 
 // What msr moves: behind `_`, operand 2 into the flags, else a register into the whole.
@@ -64,10 +64,10 @@ fn moved(line: &[u8]) -> u64
     ensures { (result ≡ cond (has 95 line.now) (operand_of (after (after line.now))) (2 ^ 16 + reg_named (word (after line.now)))) × (result < 2 ^ 26) }
 {
     let one = next_word(line);
-    if contains(line, b'_') {
+    if line.contains(&b'_') {
         return operand(next_word(one));
     }
-    0x0001_0000 + register(one)
+    0x0001_0000 + register(one) as u64
 }
 
 // msr. Bit 22 is set where S, of SPSR, stands behind the tab.
@@ -84,7 +84,7 @@ fn added(b: u64, three: &[u8]) -> u64
     ensures { (result ≡ cond (bit b 21) (reg_named (word (after three.now))) 0) × (result ≤ 16) }
 {
     if b / 0x0020_0000 % 2 == 1 {
-        return register(next_word(three));
+        return register(next_word(three)) as u64;
     }
     0
 }
@@ -97,9 +97,9 @@ pub fn mul_candidate(b: u64, c: u64, line: &[u8]) -> u64
     let one = next_word(line);
     let two = next_word(one);
     let three = next_word(two);
-    let rd = register(one);
-    let rm = register(two);
-    let rs = register(three);
+    let rd = register(one) as u64;
+    let rm = register(two) as u64;
+    let rs = register(three) as u64;
     let rn = added(b, three);
     c * 0x1000_0000 + b + rd * 0x0001_0000 + rn * 0x1000 + rs * 0x0100 + 0x90 + rm
 }
@@ -112,10 +112,10 @@ pub fn mull_candidate(b: u64, c: u64, line: &[u8]) -> u64
     let one = next_word(line);
     let two = next_word(one);
     let three = next_word(two);
-    let lo = register(one);
-    let hi = register(two);
-    let rm = register(three);
-    let rs = register(next_word(three));
+    let lo = register(one) as u64;
+    let hi = register(two) as u64;
+    let rm = register(three) as u64;
+    let rs = register(next_word(three)) as u64;
     c * 0x1000_0000 + 0x0080_0000 + b + hi * 0x0001_0000 + lo * 0x1000 + rs * 0x0100 + 0x90 + rm
 }
 
@@ -134,9 +134,9 @@ pub fn swp_candidate(b: u64, c: u64, line: &[u8]) -> u64
 {
     let one = next_word(line);
     let two = next_word(one);
-    let rd = register(one);
-    let rm = register(two);
-    let rn = register(next_word(two));
+    let rd = register(one) as u64;
+    let rm = register(two) as u64;
+    let rn = register(next_word(two)) as u64;
     c * 0x1000_0000 + 0x0100_0000 + b + rn * 0x0001_0000 + rd * 0x1000 + 0x90 + rm
 }
 

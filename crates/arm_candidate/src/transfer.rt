@@ -5,10 +5,10 @@ ghost use Rattle.arm_candidate.specs.CandidateTransfer.{ldm_cand, base_in, is_ad
 ghost use Rattle.text.specs.Word.{after, behind};
 
 use crate::operand::shifted;
-use crate::parts::{byte_at, decimal, is_number, register};
+use crate::parts::{byte_at, is_number};
 use arm7tdmi::Form;
-use reading::parts::{as_flag, register_list};
-use text::read::{behind_word, contains, first_word, next_word};
+use reading::parts::{as_flag, register, register_list};
+use text::read::{behind_word, first_word, next_word, read_number};
 
 // ldm and stm. `^` and `!` stand nowhere else in the line.
 pub fn ldm_candidate(b: u64, c: u64, line: &[u8]) -> u64
@@ -16,9 +16,9 @@ pub fn ldm_candidate(b: u64, c: u64, line: &[u8]) -> u64
     ensures { (form : Form) (pc : ℕ) → result ≡ ldm_cand form pc b c line.now }
 {
     let one = next_word(line);
-    let user = as_flag(contains(line, b'^'));
-    let back = as_flag(contains(line, b'!'));
-    let rn = register(one);
+    let user = as_flag(line.contains(&b'^'));
+    let back = as_flag(line.contains(&b'!'));
+    let rn = register(one) as u64;
     let list = register_list(16, next_word(one));
     c * 0x1000_0000
         + 0x0800_0000
@@ -42,11 +42,11 @@ fn base_in(b: u64, line: &[u8], one: &[u8], two: &[u8]) -> u64
     ensures { (result ≡ base_in b line.now) × (result < 2 ^ 27) }
 {
     let before = as_flag(indexed(two));
-    let back = as_flag(contains(line, b'!'));
+    let back = as_flag(line.contains(&b'!'));
     b + before * 0x0100_0000
         + back * 0x0020_0000
-        + register(two) * 0x0001_0000
-        + register(one) * 0x1000
+        + register(two) as u64 * 0x0001_0000
+        + register(one) as u64 * 0x1000
 }
 
 // Whether a number is added.
@@ -85,10 +85,10 @@ fn ldr_offset(form: Form, line: &[u8], three: &[u8]) -> u64
     requires { three.now ≡ after (after (after line.now)) }
     ensures { (result ≡ ldr_offset form line.now) × (result < 2 ^ 27) }
 {
-    let minus = contains(line, b'-');
+    let minus = line.contains(&b'-');
     let w = first_word(three);
     if is_number(w) {
-        let v = decimal(w);
+        let v = read_number::<10>(w) as u64;
         let up = is_added(form, false, minus, v);
         return as_flag(up) * 0x0080_0000 + size_of(form, up, v) % 0x1000;
     }
@@ -112,15 +112,15 @@ fn half_offset(form: Form, zero: bool, line: &[u8], three: &[u8]) -> u64
     requires { three.now ≡ after (after (after line.now)) }
     ensures { (result ≡ half_offset form zero line.now) × (result < 2 ^ 27) }
 {
-    let minus = contains(line, b'-');
+    let minus = line.contains(&b'-');
     let w = first_word(three);
     if is_number(w) {
-        let v = decimal(w);
+        let v = read_number::<10>(w) as u64;
         let up = is_added(form, zero, minus, v);
         let n = size_of(form, up, v);
         return 0x0040_0000 + as_flag(up) * 0x0080_0000 + n / 16 % 16 * 256 + n % 16;
     }
-    as_flag(!minus) * 0x0080_0000 + register(three)
+    as_flag(!minus) * 0x0080_0000 + register(three) as u64
 }
 
 // Halfword transfers. Where bits 24-12 are those of a move to flags, U set tells it from that.

@@ -2,6 +2,7 @@
 use Prim.Native.Nat.{◌-◌, ◌≤◌, ℕ}
 use mathlib.Core.Bool.{◌&&◌, not}
 use native.Mathlib.Omega.{arith}
+use Rattle.std.proofs.Common.{Option, Some, None}
 use Rattle.lines.proofs.Address.{address_within}
 use Rattle.lines.proofs.Lengths.{cond_at_within, either_within, if_set_within, reg_at_within, registers_within}
 use Rattle.arm7tdmi.specs.Alu.{alu_op_code, decode_rotated_immediate, is_setting_flags}
@@ -60,12 +61,12 @@ op_head form raw op =
     (opcode op & if_set_within raw 20 (exactly (text "s")) & mark raw & exactly (text "\t") & rd form raw & exactly (text ", ") & reg raw 16 20 (omega arith) & exactly (text ", "))
     (omega arith) (omega arith)))
 
-halfword : (t : ArmHalfwordTransferType) → Within 0 2 (halfword_text t)
+halfword : (t : Option ArmHalfwordTransferType) → Within 0 2 (halfword_text t)
 unfolding halfword_text
-halfword Half.Invalid = none 2
-halfword Half.UnsignedHalfwords = loosely (exactly (text "h")) (omega arith) (omega arith)
-halfword Half.SignedByte = loosely (exactly (text "sb")) (omega arith) (omega arith)
-halfword Half.SignedHalfwords = loosely (exactly (text "sh")) (omega arith) (omega arith)
+halfword None = none 2
+halfword (Some Half.UnsignedHalfwords) = loosely (exactly (text "h")) (omega arith) (omega arith)
+halfword (Some Half.SignedByte) = loosely (exactly (text "sb")) (omega arith) (omega arith)
+halfword (Some Half.SignedHalfwords) = loosely (exactly (text "sh")) (omega arith) (omega arith)
 
 half_line : (form : Form) (pc raw : ℕ) (o : BarrelShifterValue) → Within 5 80 (fmt_halfword form pc raw o)
 unfolding fmt_halfword

@@ -1,7 +1,7 @@
 -- The lines of ARM words, bench and sheet: one definition for each `fmt_` function of the Rust's arm/disass.rs, in its order, with the Rust's
 -- format beside it. The form stands where the sheet line differs: S3 of document 01 (S1, S4 and S10 are an operand's, S2 the kind's), and S9
 -- where an address is shown. Assumes nothing.
-use Rattle.std.specs.Prelude.{Bool, true, false, cond, ◌&&◌, not, List, [], ◌++◌, ℕ}
+use Rattle.std.specs.Prelude.{Bool, true, false, cond, ◌&&◌, not, List, [], ◌++◌, ℕ, Option, Some, None}
 use Rattle.common.specs.Bits.{bit, bit_range}
 use Rattle.text.specs.Text.{text}
 use Rattle.text.specs.Digits.{prefixed}
@@ -43,11 +43,11 @@ op_text Op.MOV = text "mov"
 op_text Op.BIC = text "bic"
 op_text Op.MVN = text "mvn"
 
-unfoldable pub halfword_text : ArmHalfwordTransferType → List ℕ
-halfword_text Half.Invalid = []
-halfword_text Half.UnsignedHalfwords = text "h"
-halfword_text Half.SignedByte = text "sb"
-halfword_text Half.SignedHalfwords = text "sh"
+unfoldable pub halfword_text : Option ArmHalfwordTransferType → List ℕ
+halfword_text None = []
+halfword_text (Some Half.UnsignedHalfwords) = text "h"
+halfword_text (Some Half.SignedByte) = text "sb"
+halfword_text (Some Half.SignedHalfwords) = text "sh"
 
 -- ---- fmt_bx: "bx\t{Rn}". S3: "`bx` prints its condition"
 unfoldable pub bx_cond : Form → ℕ → List ℕ

@@ -1,7 +1,7 @@
 // One function for each `fmt_` function of the Rust, in its order.
-ghost use Rattle.std.specs.Prelude.{◌≡◌};
+ghost use Rattle.std.specs.Prelude.{◌≡◌, ◌++◌};
 ghost use Rattle.text.specs.Text.{text};
-ghost use Rattle.text.specs.Wrote.{Wrote, WroteBoth};
+ghost use Rattle.text.specs.Puts.{puts};
 ghost use Rattle.arm_disass.specs.Line.{cond_mark, op_text, halfword_text, bx_cond, fmt_bx, fmt_branch, fmt_move, fmt_test, fmt_three, is_move, fmt_opcode, fmt_data_processing, user_mark, fmt_ldr_str, fmt_ldm_stm, fmt_mrs, fmt_msr, fmt_msr_flags, fmt_mul_mla, fmt_mull_mlal, fmt_halfword, fmt_ldr_str_hs_imm_offset, fmt_ldr_str_hs_reg_offset, fmt_swi, fmt_swp};
 
 use arm::{
@@ -15,292 +15,274 @@ use arm7tdmi::alu::{AluOpCode, BarrelShifterValue};
 use lines::{
     put_address, put_cond_at, put_either, put_mark, put_reg_at, put_reg_comma, put_registers,
 };
-use text::put::{part, put_0x, put_byte, put_text};
+use text::put::Writer;
 
-fn put_opcode(buf: &mut [u8], at: usize, op: AluOpCode) -> usize
-    ensures { Wrote buf.old at (op_text op) buf.new result }
+fn put_opcode(out: &mut Writer<'_>, op: AluOpCode)
+    ensures { out.new ≡ puts out.old (op_text op) }
 {
-    let n = op.number();
-    let from = 3 * n as usize;
-    put_text(
-        buf,
-        at,
-        part(b"andeorsubrsbaddadcsbcrsctstteqcmpcmnorrmovbicmvn", from, 3),
-    )
+    match op {
+        AluOpCode::AND => out.put_text(b"and"),
+        AluOpCode::EOR => out.put_text(b"eor"),
+        AluOpCode::SUB => out.put_text(b"sub"),
+        AluOpCode::RSB => out.put_text(b"rsb"),
+        AluOpCode::ADD => out.put_text(b"add"),
+        AluOpCode::ADC => out.put_text(b"adc"),
+        AluOpCode::SBC => out.put_text(b"sbc"),
+        AluOpCode::RSC => out.put_text(b"rsc"),
+        AluOpCode::TST => out.put_text(b"tst"),
+        AluOpCode::TEQ => out.put_text(b"teq"),
+        AluOpCode::CMP => out.put_text(b"cmp"),
+        AluOpCode::CMN => out.put_text(b"cmn"),
+        AluOpCode::ORR => out.put_text(b"orr"),
+        AluOpCode::MOV => out.put_text(b"mov"),
+        AluOpCode::BIC => out.put_text(b"bic"),
+        AluOpCode::MVN => out.put_text(b"mvn"),
+    }
 }
 
-fn put_halfword_type(buf: &mut [u8], at: usize, t: ArmHalfwordTransferType) -> usize
-    ensures { Wrote buf.old at (halfword_text t) buf.new result }
+fn put_halfword_type(out: &mut Writer<'_>, t: Option<ArmHalfwordTransferType>)
+    ensures { out.new ≡ puts out.old (halfword_text t) }
 {
     match t {
-        ArmHalfwordTransferType::Invalid => at,
-        ArmHalfwordTransferType::UnsignedHalfwords => put_text(buf, at, b"h"),
-        ArmHalfwordTransferType::SignedByte => put_text(buf, at, b"sb"),
-        ArmHalfwordTransferType::SignedHalfwords => put_text(buf, at, b"sh"),
+        Some(ArmHalfwordTransferType::UnsignedHalfwords) => out.put_text(b"h"),
+        Some(ArmHalfwordTransferType::SignedByte) => out.put_text(b"sb"),
+        Some(ArmHalfwordTransferType::SignedHalfwords) => out.put_text(b"sh"),
+        None => {}
     }
 }
 
 // The condition of a word, and the tab behind the mnemonic.
-fn put_cond_tab(buf: &mut [u8], at: usize, raw: u32) -> usize
-    ensures { WroteBoth buf.old at (cond_mark raw) (text "\t") buf.new result }
+fn put_cond_tab(out: &mut Writer<'_>, raw: u32)
+    ensures { out.new ≡ puts (puts out.old (cond_mark raw)) (text "\t") }
 {
-    let at = put_cond_at(buf, at, raw, 28, 32);
-    put_byte(buf, at, b'\t')
+    put_cond_at(out, raw, 28, 32);
+    out.put_byte(b'\t');
 }
 
 // S3: the sheet's bx has its condition.
-fn put_bx_cond(buf: &mut [u8], at: usize, form: Form, raw: u32) -> usize
-    ensures { Wrote buf.old at (bx_cond form raw) buf.new result }
+fn put_bx_cond(out: &mut Writer<'_>, form: Form, raw: u32)
+    ensures { out.new ≡ puts out.old (bx_cond form raw) }
 {
     match form {
-        Form::Bench => at,
-        Form::Sheet => put_cond_at(buf, at, raw, 28, 32),
+        Form::Bench => {}
+        Form::Sheet => put_cond_at(out, raw, 28, 32),
     }
 }
 
-pub fn fmt_bx(buf: &mut [u8], at: usize, form: Form, raw: u32) -> usize
-    ensures { Wrote buf.old at (fmt_bx form raw) buf.new result }
+pub fn fmt_bx(out: &mut Writer<'_>, form: Form, raw: u32)
+    ensures { out.new ≡ puts out.old (fmt_bx form raw) }
 {
-    let at = put_text(buf, at, b"bx");
-    let at = put_bx_cond(buf, at, form, raw);
-    let at = put_byte(buf, at, b'\t');
-    put_reg_at(buf, at, raw, 0, 4)
+    out.put_text(b"bx");
+    put_bx_cond(out, form, raw);
+    out.put_byte(b'\t');
+    put_reg_at(out, raw, 0, 4);
 }
 
-pub fn fmt_branch(buf: &mut [u8], at: usize, form: Form, pc: u32, raw: u32) -> usize
-    ensures { Wrote buf.old at (fmt_branch form pc raw) buf.new result }
+pub fn fmt_branch(out: &mut Writer<'_>, form: Form, pc: u32, raw: u32)
+    ensures { out.new ≡ puts out.old (fmt_branch form pc raw) }
 {
     let target = branch_target(pc, raw);
-    let at = put_byte(buf, at, b'b');
-    let at = put_mark(buf, at, raw, 24, b'l');
-    let at = put_cond_tab(buf, at, raw);
-    put_address(buf, at, form, target)
+    out.put_byte(b'b');
+    put_mark(out, raw, 24, b'l');
+    put_cond_tab(out, raw);
+    put_address(out, form, target);
 }
 
 // mov and mvn.
-fn fmt_move(buf: &mut [u8], at: usize, form: Form, raw: u32, op: AluOpCode) -> usize
-    ensures { Wrote buf.old at (fmt_move form raw op) buf.new result }
+fn fmt_move(out: &mut Writer<'_>, form: Form, raw: u32, op: AluOpCode)
+    ensures { out.new ≡ puts out.old (fmt_move form raw op) }
 {
-    let at = put_opcode(buf, at, op);
-    let at = put_mark(buf, at, raw, 20, b's');
-    let at = put_cond_tab(buf, at, raw);
-    let at = put_rd(buf, at, form, raw);
-    put_text(buf, at, b", ")
+    put_opcode(out, op);
+    put_mark(out, raw, 20, b's');
+    put_cond_tab(out, raw);
+    put_rd(out, form, raw);
+    out.put_text(b", ");
 }
 
 // tst, teq, cmp and cmn.
-fn fmt_test(buf: &mut [u8], at: usize, raw: u32, op: AluOpCode) -> usize
-    ensures { Wrote buf.old at (fmt_test raw op) buf.new result }
+fn fmt_test(out: &mut Writer<'_>, raw: u32, op: AluOpCode)
+    ensures { out.new ≡ puts out.old (fmt_test raw op) }
 {
-    let at = put_opcode(buf, at, op);
-    let at = put_cond_tab(buf, at, raw);
-    put_reg_comma(buf, at, raw, 16, 20)
+    put_opcode(out, op);
+    put_cond_tab(out, raw);
+    put_reg_comma(out, raw, 16, 20);
 }
 
 // The opcodes with three operands.
-fn fmt_three(buf: &mut [u8], at: usize, form: Form, raw: u32, op: AluOpCode) -> usize
-    ensures { Wrote buf.old at (fmt_three form raw op) buf.new result }
+fn fmt_three(out: &mut Writer<'_>, form: Form, raw: u32, op: AluOpCode)
+    ensures { out.new ≡ puts out.old (fmt_three form raw op) }
 {
-    let at = put_opcode(buf, at, op);
-    let at = put_mark(buf, at, raw, 20, b's');
-    let at = put_cond_tab(buf, at, raw);
-    let at = put_rd(buf, at, form, raw);
-    let at = put_text(buf, at, b", ");
-    put_reg_comma(buf, at, raw, 16, 20)
+    put_opcode(out, op);
+    put_mark(out, raw, 20, b's');
+    put_cond_tab(out, raw);
+    put_rd(out, form, raw);
+    out.put_text(b", ");
+    put_reg_comma(out, raw, 16, 20);
 }
 
 fn is_move(op: AluOpCode) -> bool
     ensures { result ≡ is_move op }
 {
-    match op {
-        AluOpCode::AND => false,
-        AluOpCode::EOR => false,
-        AluOpCode::SUB => false,
-        AluOpCode::RSB => false,
-        AluOpCode::ADD => false,
-        AluOpCode::ADC => false,
-        AluOpCode::SBC => false,
-        AluOpCode::RSC => false,
-        AluOpCode::TST => false,
-        AluOpCode::TEQ => false,
-        AluOpCode::CMP => false,
-        AluOpCode::CMN => false,
-        AluOpCode::ORR => false,
-        AluOpCode::MOV => true,
-        AluOpCode::BIC => false,
-        AluOpCode::MVN => true,
-    }
+    matches!(op, AluOpCode::MOV | AluOpCode::MVN)
 }
 
-fn fmt_opcode(buf: &mut [u8], at: usize, form: Form, raw: u32, op: AluOpCode) -> usize
-    ensures { Wrote buf.old at (fmt_opcode form raw op) buf.new result }
+fn fmt_opcode(out: &mut Writer<'_>, form: Form, raw: u32, op: AluOpCode)
+    ensures { out.new ≡ puts out.old (fmt_opcode form raw op) }
 {
     if is_move(op) {
-        return fmt_move(buf, at, form, raw, op);
+        fmt_move(out, form, raw, op);
+    } else if op.is_setting_flags() {
+        fmt_test(out, raw, op);
+    } else {
+        fmt_three(out, form, raw, op);
     }
-    if op.is_setting_flags() {
-        return fmt_test(buf, at, raw, op);
-    }
-    fmt_three(buf, at, form, raw, op)
 }
 
-pub fn fmt_data_processing(buf: &mut [u8], at: usize, form: Form, raw: u32) -> usize
-    ensures { Wrote buf.old at (fmt_data_processing form raw) buf.new result }
+pub fn fmt_data_processing(out: &mut Writer<'_>, form: Form, raw: u32)
+    ensures { out.new ≡ puts out.old (fmt_data_processing form raw) }
 {
     let op = opcode(raw);
     let operand = operand2(raw);
-    let at = fmt_opcode(buf, at, form, raw, op);
-    fmt_operand2(buf, at, form, operand)
+    fmt_opcode(out, form, raw, op);
+    fmt_operand2(out, form, operand);
 }
 
 // `t`, where P is clear and W set.
-fn put_user_mark(buf: &mut [u8], at: usize, raw: u32) -> usize
-    ensures { Wrote buf.old at (user_mark raw) buf.new result }
+fn put_user_mark(out: &mut Writer<'_>, raw: u32)
+    ensures { out.new ≡ puts out.old (user_mark raw) }
 {
-    if pre_index_flag(raw) {
-        return at;
+    if !pre_index_flag(raw) {
+        out.put_if(write_back_flag(raw), b't');
     }
-    if write_back_flag(raw) {
-        return put_byte(buf, at, b't');
-    }
-    at
 }
 
-pub fn fmt_ldr_str(buf: &mut [u8], at: usize, form: Form, pc: u32, raw: u32) -> usize
-    ensures { Wrote buf.old at (fmt_ldr_str form pc raw) buf.new result }
+pub fn fmt_ldr_str(out: &mut Writer<'_>, form: Form, pc: u32, raw: u32)
+    ensures { out.new ≡ puts out.old (fmt_ldr_str form pc raw) }
 {
     let offset = ldr_str_offset(raw);
-    let at = put_either(buf, at, raw, 20, b"ldr", b"str");
-    let at = put_mark(buf, at, raw, 22, b'b');
-    let at = put_user_mark(buf, at, raw);
-    let at = put_cond_tab(buf, at, raw);
-    let at = put_reg_comma(buf, at, raw, 12, 16);
-    fmt_rn_offset(buf, at, form, pc, raw, offset)
+    put_either(out, raw, 20, b"ldr", b"str");
+    put_mark(out, raw, 22, b'b');
+    put_user_mark(out, raw);
+    put_cond_tab(out, raw);
+    put_reg_comma(out, raw, 12, 16);
+    fmt_rn_offset(out, form, pc, raw, offset);
 }
 
-pub fn fmt_ldm_stm(buf: &mut [u8], at: usize, raw: u32) -> usize
-    ensures { Wrote buf.old at (fmt_ldm_stm raw) buf.new result }
+pub fn fmt_ldm_stm(out: &mut Writer<'_>, raw: u32)
+    ensures { out.new ≡ puts out.old (fmt_ldm_stm raw) }
 {
-    let at = put_either(buf, at, raw, 20, b"ldm", b"stm");
-    let at = put_either(buf, at, raw, 23, b"i", b"d");
-    let at = put_either(buf, at, raw, 24, b"b", b"a");
-    let at = put_cond_tab(buf, at, raw);
-    let at = put_reg_at(buf, at, raw, 16, 20);
-    let at = put_mark(buf, at, raw, 21, b'!');
-    let at = put_text(buf, at, b", {");
-    let at = put_registers(buf, at, raw, 16);
-    let at = put_byte(buf, at, b'}');
-    put_mark(buf, at, raw, 22, b'^')
+    put_either(out, raw, 20, b"ldm", b"stm");
+    put_either(out, raw, 23, b"i", b"d");
+    put_either(out, raw, 24, b"b", b"a");
+    put_cond_tab(out, raw);
+    put_reg_at(out, raw, 16, 20);
+    put_mark(out, raw, 21, b'!');
+    out.put_text(b", {");
+    put_registers(out, raw, 16);
+    out.put_byte(b'}');
+    put_mark(out, raw, 22, b'^');
 }
 
-pub fn fmt_mrs(buf: &mut [u8], at: usize, raw: u32) -> usize
-    ensures { Wrote buf.old at (fmt_mrs raw) buf.new result }
+pub fn fmt_mrs(out: &mut Writer<'_>, raw: u32)
+    ensures { out.new ≡ puts out.old (fmt_mrs raw) }
 {
-    let at = put_text(buf, at, b"mrs");
-    let at = put_cond_tab(buf, at, raw);
-    let at = put_reg_comma(buf, at, raw, 12, 16);
-    put_either(buf, at, raw, 22, b"SPSR", b"CPSR")
+    out.put_text(b"mrs");
+    put_cond_tab(out, raw);
+    put_reg_comma(out, raw, 12, 16);
+    put_either(out, raw, 22, b"SPSR", b"CPSR");
 }
 
-pub fn fmt_msr(buf: &mut [u8], at: usize, form: Form, raw: u32) -> usize
-    ensures { Wrote buf.old at (fmt_msr form raw) buf.new result }
+pub fn fmt_msr(out: &mut Writer<'_>, form: Form, raw: u32)
+    ensures { out.new ≡ puts out.old (fmt_msr form raw) }
 {
     let operand = operand2(raw);
-    let at = put_text(buf, at, b"msr");
-    let at = put_cond_tab(buf, at, raw);
-    let at = put_either(buf, at, raw, 22, b"SPSR", b"CPSR");
-    let at = put_text(buf, at, b", ");
-    fmt_operand2(buf, at, form, operand)
+    out.put_text(b"msr");
+    put_cond_tab(out, raw);
+    put_either(out, raw, 22, b"SPSR", b"CPSR");
+    out.put_text(b", ");
+    fmt_operand2(out, form, operand);
 }
 
-pub fn fmt_msr_flags(buf: &mut [u8], at: usize, form: Form, raw: u32) -> usize
-    ensures { Wrote buf.old at (fmt_msr_flags form raw) buf.new result }
+pub fn fmt_msr_flags(out: &mut Writer<'_>, form: Form, raw: u32)
+    ensures { out.new ≡ puts out.old (fmt_msr_flags form raw) }
 {
     let operand = operand2(raw);
     let decoded = operand.decode_rotated_immediate();
-    let at = put_text(buf, at, b"msr");
-    let at = put_cond_tab(buf, at, raw);
-    let at = put_either(buf, at, raw, 22, b"SPSR_f", b"CPSR_f");
-    let at = put_text(buf, at, b", ");
-    let at = fmt_operand2(buf, at, form, operand);
-    put_flags_comment(buf, at, decoded)
+    out.put_text(b"msr");
+    put_cond_tab(out, raw);
+    put_either(out, raw, 22, b"SPSR_f", b"CPSR_f");
+    out.put_text(b", ");
+    fmt_operand2(out, form, operand);
+    put_flags_comment(out, decoded);
 }
 
-pub fn fmt_mul_mla(buf: &mut [u8], at: usize, raw: u32) -> usize
-    ensures { Wrote buf.old at (fmt_mul_mla raw) buf.new result }
+pub fn fmt_mul_mla(out: &mut Writer<'_>, raw: u32)
+    ensures { out.new ≡ puts out.old (fmt_mul_mla raw) }
 {
-    let at = put_either(buf, at, raw, 21, b"mla", b"mul");
-    let at = put_mark(buf, at, raw, 20, b's');
-    let at = put_cond_tab(buf, at, raw);
-    let at = put_reg_comma(buf, at, raw, 16, 20);
-    let at = put_reg_comma(buf, at, raw, 0, 4);
-    let at = put_reg_at(buf, at, raw, 8, 12);
-    put_added_register(buf, at, raw)
+    put_either(out, raw, 21, b"mla", b"mul");
+    put_mark(out, raw, 20, b's');
+    put_cond_tab(out, raw);
+    put_reg_comma(out, raw, 16, 20);
+    put_reg_comma(out, raw, 0, 4);
+    put_reg_at(out, raw, 8, 12);
+    put_added_register(out, raw);
 }
 
-pub fn fmt_mull_mlal(buf: &mut [u8], at: usize, raw: u32) -> usize
-    ensures { Wrote buf.old at (fmt_mull_mlal raw) buf.new result }
+pub fn fmt_mull_mlal(out: &mut Writer<'_>, raw: u32)
+    ensures { out.new ≡ puts out.old (fmt_mull_mlal raw) }
 {
-    let at = put_either(buf, at, raw, 22, b"s", b"u");
-    let at = put_either(buf, at, raw, 21, b"mlal", b"mull");
-    let at = put_mark(buf, at, raw, 20, b's');
-    let at = put_cond_tab(buf, at, raw);
-    let at = put_reg_comma(buf, at, raw, 12, 16);
-    let at = put_reg_comma(buf, at, raw, 16, 20);
-    let at = put_reg_comma(buf, at, raw, 0, 4);
-    put_reg_at(buf, at, raw, 8, 12)
+    put_either(out, raw, 22, b"s", b"u");
+    put_either(out, raw, 21, b"mlal", b"mull");
+    put_mark(out, raw, 20, b's');
+    put_cond_tab(out, raw);
+    put_reg_comma(out, raw, 12, 16);
+    put_reg_comma(out, raw, 16, 20);
+    put_reg_comma(out, raw, 0, 4);
+    put_reg_at(out, raw, 8, 12)
 }
 
 // The halfword transfers.
-fn fmt_halfword(
-    buf: &mut [u8],
-    at: usize,
-    form: Form,
-    pc: u32,
-    raw: u32,
-    offset: BarrelShifterValue,
-) -> usize
-    ensures { Wrote buf.old at (fmt_halfword form pc raw offset) buf.new result }
+fn fmt_halfword(out: &mut Writer<'_>, form: Form, pc: u32, raw: u32, offset: BarrelShifterValue)
+    ensures { out.new ≡ puts out.old (fmt_halfword form pc raw offset) }
 {
     let transfer_type = halfword_data_transfer_type(raw);
-    let at = put_either(buf, at, raw, 20, b"ldr", b"str");
-    let at = put_halfword_type(buf, at, transfer_type);
-    let at = put_cond_tab(buf, at, raw);
-    let at = put_reg_comma(buf, at, raw, 12, 16);
-    fmt_rn_offset(buf, at, form, pc, raw, offset)
+    put_either(out, raw, 20, b"ldr", b"str");
+    put_halfword_type(out, transfer_type);
+    put_cond_tab(out, raw);
+    put_reg_comma(out, raw, 12, 16);
+    fmt_rn_offset(out, form, pc, raw, offset);
 }
 
-pub fn fmt_ldr_str_hs_imm_offset(buf: &mut [u8], at: usize, form: Form, pc: u32, raw: u32) -> usize
-    ensures { Wrote buf.old at (fmt_ldr_str_hs_imm_offset form pc raw) buf.new result }
+pub fn fmt_ldr_str_hs_imm_offset(out: &mut Writer<'_>, form: Form, pc: u32, raw: u32)
+    ensures { out.new ≡ puts out.old (fmt_ldr_str_hs_imm_offset form pc raw) }
 {
-    fmt_halfword(buf, at, form, pc, raw, ldr_str_hs_imm_offset(raw))
+    fmt_halfword(out, form, pc, raw, ldr_str_hs_imm_offset(raw));
 }
 
-pub fn fmt_ldr_str_hs_reg_offset(buf: &mut [u8], at: usize, form: Form, pc: u32, raw: u32) -> usize
-    ensures { Wrote buf.old at (fmt_ldr_str_hs_reg_offset form pc raw) buf.new result }
+pub fn fmt_ldr_str_hs_reg_offset(out: &mut Writer<'_>, form: Form, pc: u32, raw: u32)
+    ensures { out.new ≡ puts out.old (fmt_ldr_str_hs_reg_offset form pc raw) }
 {
-    fmt_halfword(buf, at, form, pc, raw, ldr_str_hs_reg_offset(raw))
+    fmt_halfword(out, form, pc, raw, ldr_str_hs_reg_offset(raw));
 }
 
-pub fn fmt_swi(buf: &mut [u8], at: usize, raw: u32) -> usize
-    ensures { Wrote buf.old at (fmt_swi raw) buf.new result }
+pub fn fmt_swi(out: &mut Writer<'_>, raw: u32)
+    ensures { out.new ≡ puts out.old (fmt_swi raw) }
 {
-    let comment = swi_comment(raw);
-    let at = put_text(buf, at, b"swi");
-    let at = put_cond_at(buf, at, raw, 28, 32);
-    let at = put_text(buf, at, b"\t#");
-    put_0x(buf, at, 1, comment)
+    out.put_text(b"swi");
+    put_cond_at(out, raw, 28, 32);
+    out.put_text(b"\t#");
+    out.put_0x(1, swi_comment(raw));
 }
 
-pub fn fmt_swp(buf: &mut [u8], at: usize, raw: u32) -> usize
-    ensures { Wrote buf.old at (fmt_swp raw) buf.new result }
+pub fn fmt_swp(out: &mut Writer<'_>, raw: u32)
+    ensures { out.new ≡ puts out.old (fmt_swp raw) }
 {
-    let at = put_text(buf, at, b"swp");
-    let at = put_mark(buf, at, raw, 22, b'b');
-    let at = put_cond_tab(buf, at, raw);
-    let at = put_reg_comma(buf, at, raw, 12, 16);
-    let at = put_reg_at(buf, at, raw, 0, 4);
-    let at = put_text(buf, at, b", [");
-    let at = put_reg_at(buf, at, raw, 16, 20);
-    put_byte(buf, at, b']')
+    out.put_text(b"swp");
+    put_mark(out, raw, 22, b'b');
+    put_cond_tab(out, raw);
+    put_reg_comma(out, raw, 12, 16);
+    put_reg_at(out, raw, 0, 4);
+    out.put_text(b", [");
+    put_reg_at(out, raw, 16, 20);
+    out.put_byte(b']');
 }

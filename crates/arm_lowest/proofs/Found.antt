@@ -7,6 +7,8 @@ use mathlib.Core.List.{List}
 use mathlib.Core.Path.{◌∙◌, ◌≡◌, ap, sym}
 use native.Mathlib.Nat.{le_of_eq}
 use native.Mathlib.Omega.{arith}
+use Rattle.refusal.specs.declared.Refusal.{Refusal}
+use Rattle.refusal.specs.declared.Refusal.TheVariants.{NoCondition, NoTransfer}
 use Rattle.lines.specs.Answer.{line, refused}
 use Rattle.arm.specs.Kinds.{arm_format}
 use Rattle.arm7tdmi.specs.declared.Form.{Form}
@@ -42,7 +44,7 @@ abbrev pub Law : ℕ → Candidate → Form → ℕ → ℕ → Type 0
 Law family cand form pc w = (t : List ℕ) → arm_line form pc w ≡ line t → Reads family cand form pc w t
 
 -- ---- lines of words whose kind is known
-no_line : {n : ℕ} {t : List ℕ} → refused n ≡ line t → ⊥
+no_line : {r : Refusal} {t : List ℕ} → refused r ≡ line t → ⊥
 no_line e = let z : ◌≡◌ {A = ℕ} 0 1 = cc in absurd (omega arith)
 
 line_same : {a b : List ℕ} → line a ≡ line b → a ≡ b
@@ -63,9 +65,9 @@ module _ (form : Form) (k : ArmFormat) (pc w : ℕ) (e : arm_format form w ≡ k
   unfolding arm_line answer_of
   printed_line t q =
       by_test (prints_cond form k && eqb (bit_range w 28 32) 15)
-      (λ a. let x : refused 1 ≡ line t = sym (rw (e, a)) ∙ q in absurd (no_line x))
+      (λ a. let x : refused NoCondition ≡ line t = sym (rw (e, a)) ∙ q in absurd (no_line x))
       (λ a. by_test (is_halfword k && eqb (bit_range w 5 7) 0)
-      (λ b. let x : refused 2 ≡ line t = sym (rw (e, a, b)) ∙ q in absurd (no_line x))
+      (λ b. let x : refused NoTransfer ≡ line t = sym (rw (e, a, b)) ∙ q in absurd (no_line x))
       (λ b. record { text = line_same (sym q ∙ rw (e, a, b)); when = λ p z. true≢false (sym (rw (p, eq-eqb _ _ z)) ∙ a); type = rw b }))
 
   pub line_printed : (prints_cond form k ≡ true → bit_range w 28 32 ≡ 15 → ⊥) → typed k w ≡ true → arm_line form pc w ≡ line (line_of form k pc w)

@@ -6,13 +6,13 @@ use mathlib.Core.Bool.{Bool, ◌&&◌, false, true, true≢false}
 use mathlib.Core.List.{List, ◌++◌, append_assoc, append-nil}
 use mathlib.Core.Path.{◌∙◌, ◌≡◌, ap, refl, sym}
 use native.Mathlib.Omega.{arith}
+use Rattle.std.proofs.Common.{Option}
 use Rattle.arm.specs.Fields.{added_of, halfword_type, ldr_str_hs_imm_offset, ldr_str_hs_reg_offset}
 use Rattle.arm7tdmi.specs.Names.{cond_text, reg_string}
 use Rattle.lines.specs.Pieces.{cond_at, either, reg_at}
 use Rattle.arm7tdmi.specs.declared.Form.{Form}
 use Rattle.arm7tdmi.specs.declared.alu.BarrelShifterValue.{BarrelShifterValue}
 use Rattle.arm7tdmi.specs.declared.alu.ShiftedRegister.{ShiftedRegister}
-use Rattle.arm7tdmi.specs.declared.alu.Sign.{Sign}
 use Rattle.arm_operand.specs.Operand.{by_amount, fmt_rn_offset, shift_by, shifted_register}
 use Rattle.arm_disass.specs.Line.{fmt_halfword, fmt_ldr_str_hs_imm_offset, fmt_ldr_str_hs_reg_offset, line_of}
 use Rattle.arm_print.specs.Print.{is_halfword, prints_cond}
@@ -38,7 +38,7 @@ half_pieces form pc c i p u w l k rn rd hi lo =
     transfer_pieces (half_stem l k ++ cond_text c) p rn rd (offset_lead form (eqb i 1) u) (offset form pc (eqb i 1) p u w rn (hi * 2 ^ 4 + lo))
 
 -- a register, as a shifted one
-register_text : (form : Form) (r : ℕ) (s : Sign) → r < 16 → shifted_register form (record { reg = r; shift_by = By.ByAmount 0; bs_op = Shift.LSL; added = s }) ≡ spell (shift_pieces form r)
+register_text : (form : Form) (r : ℕ) (s : Option Bool) → r < 16 → shifted_register form (record { reg = r; shift_by = By.ByAmount 0; bs_op = Shift.LSL; added = s }) ≡ spell (shift_pieces form r)
 unfolding shifted_register shift_by by_amount
 register_text form r s h = rw (shift_alone form r h) (append-nil (reg_string r))
 

@@ -6,6 +6,7 @@ use lib.ListN.{get_or, set}
 use mathlib.Core.Bool.{Bool, ◌&&◌, ◌||◌, cond, false, not, true}
 use mathlib.Core.List.{List, [], ◌++◌}
 use mathlib.Core.Path.{◌≡◌, refl}
+use Rattle.std.proofs.Common.{None}
 use Rattle.arm7tdmi.specs.Alu.{alu_op_code}
 use Rattle.arm.specs.Fields.{halfword_types}
 use Rattle.arm7tdmi.specs.Names.{cond_named, cond_names, cond_text}
@@ -18,7 +19,6 @@ use Rattle.common.specs.Lists.{first, same}
 use Rattle.text.proofs.Word.{wordy}
 use Rattle.text.specs.Text.{text}
 use Rattle.text.specs.Word.{is_word}
-use Rattle.arm.specs.declared.ArmHalfwordTransferType.TheVariants as Half
 
 -- ---- tests of all numbers below bounds
 pub at₂ : (f : ℕ → ℕ → Bool) (m n : ℕ) → every (λ a. every (f a) n) m ≡ true → (a b : ℕ) → a < m → b < n → f a b ≡ true
@@ -158,7 +158,7 @@ mull_reads u a s c h g j k =
 
 -- 9, halfword transfers of a type that is not 0
 abbrev pub half_stem : ℕ → ℕ → List ℕ
-half_stem l k = pick l (text "ldr") (text "str") ++ halfword_text (get_or halfword_types k Half.Invalid)
+half_stem l k = pick l (text "ldr") (text "str") ++ halfword_text (get_or halfword_types k None)
 
 abbrev pub half_bits : ℕ → ℕ → ℕ
 half_bits l k = l * 2 ^ 20 + k * 2 ^ 5

@@ -6,6 +6,7 @@ use lib.ListN.{get_or, length}
 use mathlib.Core.Bool.{Bool, cond, false, true}
 use mathlib.Core.List.{List, [], ◌++◌, ◌∷◌, append-nil}
 use mathlib.Core.Path.{◌∙◌, ◌≡◌, ap, refl, sym}
+use Rattle.std.proofs.Common.{Option, None}
 use native.Mathlib.Omega.{arith}
 use Rattle.arm7tdmi.proofs.Names.{reg_back, reg_letter, reg_wordy}
 use Rattle.arm7tdmi.specs.Alu.{amount_of, barrel_shift_op_code, decode_rotated_immediate}
@@ -14,7 +15,6 @@ use Rattle.arm7tdmi.specs.Names.{reg_string}
 use Rattle.arm7tdmi.specs.declared.Form.{Form}
 use Rattle.arm7tdmi.specs.declared.alu.Amount.TheVariants.{Places, Rrx}
 use Rattle.arm7tdmi.specs.declared.alu.Amount.{Amount}
-use Rattle.arm7tdmi.specs.declared.alu.Sign.{Sign}
 use Rattle.arm_operand.specs.Operand.{amount_text, by_amount, by_register, decoded_text, fmt_operand2, immediate, is_lsl0, places_text, shift_by, shift_text, shifted_register}
 use Rattle.arm_lowest.proofs.Rotation.{immediate_least, immediate_lt, immediate_at}
 use Rattle.arm_candidate.specs.CandidateOperand.{immediate_of, is_number, operand_of, shift_named, shift_names, shift_of, shifted_of}
@@ -30,7 +30,6 @@ use Rattle.text.proofs.Word.{dec_first, dec_wordy, prefixed_wordy, wordy}
 use Rattle.text.specs.Digits.{dec, prefixed}
 use Rattle.text.specs.Text.{text}
 use Rattle.text.specs.Word.{has, is_word, word}
-use Rattle.arm7tdmi.specs.declared.alu.Sign.TheVariants as S
 
 -- ---- shifts
 abbrev shift_name : ℕ → List ℕ
@@ -96,7 +95,7 @@ amount_spelled r k (Places m) h = rw (shift_name_lem k h) (ap (λ (l : List ℕ)
 amount_spelled r k Rrx h = refl
 
 -- of a word whose lowest twelve bits are n
-pub shift_spelled : (form : Form) (w n : ℕ) (a : Sign) → bit_range w 0 12 ≡ n →
+pub shift_spelled : (form : Form) (w n : ℕ) (a : Option Bool) → bit_range w 0 12 ≡ n →
     shifted_register form (record { reg = bit_range w 0 4; shift_by = shift_reg_by w; bs_op = bs_op w; added = a }) ≡ spell (shift_pieces form n)
 unfolding shifted_register shift_reg_by bs_op shift_by by_amount by_register
 shift_spelled form w n a e =
@@ -226,7 +225,7 @@ op_spelled form w i n h e =
     let b : bit w 25 ≡ eqb i 1 = ap (λ (x : ℕ). eqb x 1) h in
     by_test (eqb i 1)
     (λ y. rw (b, y, r.4, r.5) (regroup (text "#") (dec (immediate_at n) ∷ text "\t; " ∷ prefixed 1 (immediate_at n) ∷ [])))
-    (λ y. rw (b, y) (shift_spelled form w n S.Unsaid e))
+    (λ y. rw (b, y) (shift_spelled form w n None e))
 
 pub op_good : (form : Form) (i n : ℕ) → good (op_pieces form i n) ≡ true
 unfolding is_word

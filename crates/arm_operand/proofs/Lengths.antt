@@ -1,5 +1,5 @@
 -- How long the operands of a line are. Assumes nothing.
-use Rattle.std.proofs.Common.{ℕ, eqb, refl, arith}
+use Rattle.std.proofs.Common.{ℕ, Bool, true, false, Option, Some, None, eqb, refl, arith}
 use Rattle.lines.proofs.Address.{address_within}
 use Rattle.lines.proofs.Lengths.{if_set_within, reg_at_within, either_within}
 use Rattle.arm7tdmi.specs.Alu.{amount_of, decode_rotated_immediate}
@@ -13,17 +13,13 @@ use Rattle.arm7tdmi.specs.declared.alu.BarrelShiftOpCode.{BarrelShiftOpCode}
 use Rattle.arm7tdmi.specs.declared.alu.BarrelShifterValue.{BarrelShifterValue}
 use Rattle.arm7tdmi.specs.declared.alu.ShiftRegisterBy.{ShiftRegisterBy}
 use Rattle.arm7tdmi.specs.declared.alu.ShiftedRegister.{ShiftedRegister}
-use Rattle.arm7tdmi.specs.declared.alu.Sign.{Sign}
 use Rattle.arm_operand.specs.Operand.{amount_text, bench_offset, by_amount, by_register, comment, decoded_text, fmt_operand2, fmt_rn_offset, immediate, immediate_offset, indexed, is_lsl0, magnitude, offset_text, places_text, sheet_offset, shift_by, shift_text, shifted_register, sign_text, signed_register, value_comment, added_register, flag_text, flags, flags_comment, rd_text}
 use Rattle.common.specs.Bits.{bit, bit_range}
 use Rattle.text.proofs.Within.{Within, ◌&◌, dec_within, exactly, loosely, none, of_two, prefixed_within, short_entry, or_none}
 use Rattle.text.specs.Text.{text}
 use Rattle.arm7tdmi.specs.declared.alu.BarrelShiftOpCode.TheVariants as Shift
 use Rattle.arm7tdmi.specs.declared.alu.ShiftRegisterBy.TheVariants as By
-use Rattle.arm7tdmi.specs.declared.alu.Sign.TheVariants as S
 use Rattle.arm7tdmi.specs.declared.alu.BarrelShifterValue.TheVariants as Value
-use Rattle.arm7tdmi.specs.declared.alu.Decoded.{Decoded}
-use Rattle.arm7tdmi.specs.declared.alu.Decoded.TheVariants as D
 
 -- ---- operands
 shift : (op : BarrelShiftOpCode) → Within 3 3 (shift_text op)
@@ -56,10 +52,10 @@ shifted_within : (form : Form) (s : ShiftedRegister) → Within 0 20 (shifted_re
 unfolding shifted_register
 shifted_within form s = named s.reg & by form s.bs_op s.shift_by
 
-decoded : (d : Decoded) → Within 0 24 (decoded_text d)
+decoded : (d : Option ℕ) → Within 0 24 (decoded_text d)
 unfolding decoded_text immediate
-decoded D.Nothing = none 24
-decoded (D.Value v) =
+decoded None = none 24
+decoded (Some v) =
     loosely (exactly (text "#") & dec_within v & exactly (text "\t; ") & prefixed_within 1 v (omega arith)) (omega arith) (omega arith)
 
 pub operand : (form : Form) (o : BarrelShifterValue) → Within 0 24 (fmt_operand2 form o)
@@ -80,11 +76,11 @@ immediate_offset_lem Sheet raw v =
     of_two (bit raw 23) (loosely (bench_offset_lem v) (omega arith) (omega arith))
     (loosely (exactly (text "#-") & dec_within (magnitude v)) (omega arith) (omega arith))
 
-sign : (s : Sign) → Within 0 1 (sign_text s)
+sign : (s : Option Bool) → Within 0 1 (sign_text s)
 unfolding sign_text
-sign S.Added = none 1
-sign S.Subtracted = loosely (exactly (text "-")) (omega arith) (omega arith)
-sign S.Unsaid = none 1
+sign (Some true) = none 1
+sign (Some false) = loosely (exactly (text "-")) (omega arith) (omega arith)
+sign None = none 1
 
 offset : (form : Form) (raw : ℕ) (o : BarrelShifterValue) → Within 0 21 (offset_text form raw o)
 unfolding offset_text signed_register
@@ -124,10 +120,10 @@ flag : (v n : ℕ) → Within 4 5 (flag_text v n)
 unfolding flag_text
 flag v n = either_within v n (loosely (exactly (text "true")) (omega arith) (omega arith)) (loosely (exactly (text "false")) (omega arith) (omega arith))
 
-pub flags_within : (d : Decoded) → Within 0 34 (flags_comment d)
+pub flags_within : (d : Option ℕ) → Within 0 34 (flags_comment d)
 unfolding flags_comment flags
-flags_within D.Nothing = none 34
-flags_within (D.Value v) =
+flags_within None = none 34
+flags_within (Some v) =
     loosely
     (exactly (text "\t; N=") & flag v 31 & exactly (text " Z=") & flag v 30 & exactly (text " C=") & flag v 29 & exactly (text " V=") & flag v 28)
     (omega arith) (omega arith)

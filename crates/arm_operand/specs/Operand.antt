@@ -1,6 +1,6 @@
 -- The operands of ARM lines that are more than a field, by the Rust's arm/disass.rs, with its formats beside them. The form stands where the sheet line
 -- differs: S1 and S4 of document 01, S9 where an address is shown, and S10 where an amount is. Assumes nothing.
-use Rattle.std.specs.Prelude.{ℕ, ◌-◌, ◌%◌, ◌^◌, Bool, false, cond, List, [], ◌++◌, ◌==◌}
+use Rattle.std.specs.Prelude.{ℕ, ◌-◌, ◌%◌, ◌^◌, Bool, true, false, cond, List, [], ◌++◌, ◌==◌, Option, Some, None}
 use Rattle.common.specs.Bits.{bit, bit_range}
 use Rattle.text.specs.Text.{text}
 use Rattle.text.specs.Digits.{dec, prefixed}
@@ -17,13 +17,9 @@ use Rattle.arm7tdmi.specs.declared.alu.Amount.{Amount}
 use Rattle.arm7tdmi.specs.declared.alu.Amount.TheVariants.{Places, Rrx}
 use Rattle.arm7tdmi.specs.declared.alu.ShiftRegisterBy.{ShiftRegisterBy}
 use Rattle.arm7tdmi.specs.declared.alu.ShiftRegisterBy.TheVariants as By
-use Rattle.arm7tdmi.specs.declared.alu.Sign.{Sign}
-use Rattle.arm7tdmi.specs.declared.alu.Sign.TheVariants as S
 use Rattle.arm7tdmi.specs.declared.alu.ShiftedRegister.{ShiftedRegister}
 use Rattle.arm7tdmi.specs.declared.alu.BarrelShifterValue.{BarrelShifterValue}
 use Rattle.arm7tdmi.specs.declared.alu.BarrelShifterValue.TheVariants as Value
-use Rattle.arm7tdmi.specs.declared.alu.Decoded.{Decoded}
-use Rattle.arm7tdmi.specs.declared.alu.Decoded.TheVariants as D
 
 -- ---- BarrelShiftOpCode
 unfoldable pub shift_text : BarrelShiftOpCode → List ℕ
@@ -64,9 +60,9 @@ shifted_register form s = reg_string s.reg ++ shift_by form s.bs_op s.shift_by
 unfoldable pub immediate : ℕ → List ℕ
 immediate v = text "#" ++ dec v ++ text "\t; " ++ prefixed 1 v
 
-unfoldable pub decoded_text : Decoded → List ℕ
-decoded_text D.Nothing = []
-decoded_text (D.Value v) = immediate v
+unfoldable pub decoded_text : Option ℕ → List ℕ
+decoded_text None = []
+decoded_text (Some v) = immediate v
 
 unfoldable pub fmt_operand2 : Form → BarrelShifterValue → List ℕ
 fmt_operand2 form (Value.ImmediateValue v) = []
@@ -90,10 +86,10 @@ immediate_offset Bench raw v = bench_offset v
 immediate_offset Sheet raw v = sheet_offset raw v
 
 -- "a register offset then has `-` before the register"
-unfoldable pub sign_text : Sign → List ℕ
-sign_text S.Added = []
-sign_text S.Subtracted = text "-"
-sign_text S.Unsaid = []
+unfoldable pub sign_text : Option Bool → List ℕ
+sign_text (Some true) = []
+sign_text (Some false) = text "-"
+sign_text None = []
 
 unfoldable pub signed_register : Form → ShiftedRegister → List ℕ
 signed_register form s = sign_text s.added ++ shifted_register form s
@@ -136,9 +132,9 @@ unfoldable pub flags : ℕ → List ℕ
 flags v =
     text "\t; N=" ++ flag_text v 31 ++ text " Z=" ++ flag_text v 30 ++ text " C=" ++ flag_text v 29 ++ text " V=" ++ flag_text v 28
 
-unfoldable pub flags_comment : Decoded → List ℕ
-flags_comment D.Nothing = []
-flags_comment (D.Value v) = flags v
+unfoldable pub flags_comment : Option ℕ → List ℕ
+flags_comment None = []
+flags_comment (Some v) = flags v
 
 -- ---- the register that mla adds: ", {Rn}"
 unfoldable pub added_register : ℕ → List ℕ

@@ -3,6 +3,9 @@ use mathlib.Core.Path.{◌≡◌}
 use Prim.Native.Nat.{ℕ, ◌≤◌}
 use native.Mathlib.Omega.{arith}
 use Rattle.common.proofs.Tests.{by_test}
+use Rattle.refusal.specs.Refusal.{number}
+use Rattle.refusal.specs.declared.Refusal.{Refusal}
+use Rattle.refusal.specs.declared.Refusal.TheVariants.{NoCondition, NoTransfer}
 use Rattle.lines.specs.Answer.{refused, line}
 use Rattle.lines.proofs.Whole.{Whole}
 use Rattle.arm7tdmi.specs.declared.Form.{Form}
@@ -18,11 +21,11 @@ module _ (form : Form) (pc raw : ℕ) where
       by_test (lacks_cond form (arm_format form raw) raw) (λ e. rw e (omega arith, λ z. omega arith))
       (λ e. rw e (by_test (lacks_type (arm_format form raw) raw) (λ d. rw d (omega arith, λ z. omega arith)) (λ d. rw d (line_within form (arm_format form raw) pc raw).most)))
 
-  pub arm_refusals : (n : ℕ) → arm_line form pc raw ≡ refused n → (1 ≤ n) × (n ≤ 2)
+  pub arm_refusals : (r : Refusal) → arm_line form pc raw ≡ refused r → (1 ≤ number r) × (number r ≤ 2)
   unfolding arm_line answer_of
-  arm_refusals n q =
+  arm_refusals r q =
       by_test (lacks_cond form (arm_format form raw) raw)
-      (λ e. let r : refused 1 ≡ refused n = rw e at q in let z : 1 ≡ n = cc in (omega (arith, z), omega (arith, z)))
+      (λ e. let h : refused NoCondition ≡ refused r = rw e at q in let z : NoCondition ≡ r = cc in rw (← z) (omega arith, omega arith))
       (λ e. by_test (lacks_type (arm_format form raw) raw)
-      (λ d. let r : refused 2 ≡ refused n = rw (e, d) at q in let z : 2 ≡ n = cc in (omega (arith, z), omega (arith, z)))
-      (λ d. let r : line (line_of form (arm_format form raw) pc raw) ≡ refused n = rw (e, d) at q in let z : ◌≡◌ {A = ℕ} 0 1 = cc in absurd (omega arith)))
+      (λ d. let h : refused NoTransfer ≡ refused r = rw (e, d) at q in let z : NoTransfer ≡ r = cc in rw (← z) (omega arith, omega arith))
+      (λ d. let h : line (line_of form (arm_format form raw) pc raw) ≡ refused r = rw (e, d) at q in let z : ◌≡◌ {A = ℕ} 0 1 = cc in absurd (omega arith)))

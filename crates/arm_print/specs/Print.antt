@@ -3,6 +3,7 @@ use Rattle.std.specs.Prelude.{Bool, true, false, cond, ◌&&◌, ℕ, eqb}
 use Rattle.common.specs.Bits.{bit_range}
 use Rattle.arm.specs.Kinds.{arm_format}
 use Rattle.lines.specs.Answer.{Answer, refused, line}
+use Rattle.refusal.specs.declared.Refusal.TheVariants.{NoCondition, NoTransfer}
 use Rattle.arm7tdmi.specs.declared.Form.{Form}
 use Rattle.arm7tdmi.specs.declared.Form.TheVariants.{Bench, Sheet}
 use Rattle.arm.specs.declared.ArmFormat.{ArmFormat}
@@ -59,7 +60,7 @@ lacks_type fmt raw = is_halfword fmt && eqb (bit_range raw 5 7) 0
 
 -- "Refusals in order: 1, 2"
 unfoldable pub answer_of : Form → ArmFormat → ℕ → ℕ → Answer
-answer_of form fmt pc raw = cond (lacks_cond form fmt raw) (refused 1) (cond (lacks_type fmt raw) (refused 2) (line (line_of form fmt pc raw)))
+answer_of form fmt pc raw = cond (lacks_cond form fmt raw) (refused NoCondition) (cond (lacks_type fmt raw) (refused NoTransfer) (line (line_of form fmt pc raw)))
 
 unfoldable pub arm_line : Form → ℕ → ℕ → Answer
 arm_line form pc raw = answer_of form (arm_format form raw) pc raw

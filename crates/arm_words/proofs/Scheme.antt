@@ -12,7 +12,7 @@ use Rattle.arm.specs.Kinds.{arm_format, arm_number, arm_row_at, arm_rows}
 use Rattle.arm7tdmi.specs.declared.Form.{Form}
 use Rattle.arm7tdmi.specs.declared.Form.TheVariants.{Bench, Sheet}
 use Rattle.arm.specs.declared.ArmFormat.{ArmFormat}
-use Rattle.arm.specs.declared.ArmRow.{ArmRow}
+use Rattle.arm7tdmi.specs.declared.kinds.Row.{Row}
 use Rattle.common.proofs.Tests.{at, by_test}
 use Rattle.words.proofs.Digits.{Digits, at_row, digits, num_digits, says, says_met}
 use Rattle.words.proofs.Match.{Met, Misses, Says, SaysOr, num, within}
@@ -46,13 +46,13 @@ nibble x y z t h =
     record { bound = h; low = omega arith; mid = rw m (omega arith) }
 
 -- ---- the rows of a form
-abbrev mask : ArmRow → ℕ
+abbrev mask : Row ArmFormat → ℕ
 mask r = r.mask
 
-abbrev value : ArmRow → ℕ
+abbrev value : Row ArmFormat → ℕ
 value r = r.value
 
-abbrev kind : ArmRow → ArmFormat
+abbrev kind : Row ArmFormat → ArmFormat
 kind r = r.kind
 
 -- what row n says of digits

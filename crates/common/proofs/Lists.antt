@@ -32,20 +32,6 @@ other a b f = by_test (same a b) (λ e. absurd (f (same_eq a b e))) (λ e. e)
 pub agreed : (f g : ℕ → List ℕ) (k : ℕ) → every (λ n. same (f n) (g n)) k ≡ true → (n : ℕ) → n < k → f n ≡ g n
 agreed f g k e n h = same_eq (f n) (g n) (at (λ n. same (f n) (g n)) k e n h)
 
--- the steps of a loop that compares
-module _ (a b : List ℕ) (i : ℕ) (h : i < length a) (g : i < length b) where
-  pub same_step : get_or a i 0 ≡ get_or b i 0 → same (drop i a) (drop i b) ≡ same (drop (i + 1) a) (drop (i + 1) b)
-  unfolding same
-  same_step e = rw (drop-cons a i 0 h, drop-cons b i 0 g, eq-eqb _ _ e, add-one)
-
-  pub same_break : (get_or a i 0 ≡ get_or b i 0 → ⊥) → same (drop i a) (drop i b) ≡ false
-  unfolding same
-  same_break e = rw (drop-cons a i 0 h, drop-cons b i 0 g, ne_eqb _ _ e)
-
-pub same_out : (a b : List ℕ) (i : ℕ) → length a ≤ i → length b ≤ i → same (drop i a) (drop i b) ≡ true
-unfolding same
-same_out a b i h g = rw (drop_of_length-le a h, drop_of_length-le b g)
-
 -- ---- places
 module _ {A : Type 0} (p : A → Bool) where
   pub first_le : (xs : List A) → first p xs ≤ length xs

@@ -1,3 +1,3 @@
-pub mod Bytes
+mod Bytes
 pub mod Stretches
 pub mod Valid

@@ -1,220 +1,220 @@
 // An image of words: its bytes, its Thumb stretches, which set holds at a place, and what is refused.
 #![tactic(auto)]
 
-ghost use Rattle.std.specs.Prelude.{◌≡◌, ◌+◌, ◌*◌, ◌/◌, ◌^◌, ◌<◌, ◌≤◌, length};
+ghost use Rattle.std.specs.Prelude.{ℕ, ◌≡◌, ◌+◌, ◌/◌, ◌<◌, ◌≤◌, length, slice_index};
 ghost use Rattle.image.specs.Bytes.{half, word};
 ghost use Rattle.image.specs.Stretches.{pair_at, pairs, end, left, first_left, set_at};
-ghost use Rattle.image.specs.Refusal.{uneven, unit, wrong_image, wrong_pair, wrong_pairs, wrong_list, refusal, refusal_at};
+ghost use Rattle.image.specs.Refusal.{unit, wrong_image, wrong_pair, wrong_pairs, wrong_list, wrong_place, refusal, refusal_at};
 
-// The set at a place; for Thumb, with the end of its stretch.
+use refusal::Refusal;
+
+// The set at a place; for Thumb, with the end of its stretch. An enum and no `Option`: ARM is a set of words, and not the lack of one.
 #[derive(Clone, Copy)]
 pub enum Set {
     Arm,
     Thumb(usize),
 }
 
-// A byte as a number of 32 bits.
-fn wide(x: u8) -> u32
-    ensures { (result ≡ x) × (result < 256) }
+// How many bytes a word of a set has.
+fn unit(s: Set) -> usize
+    ensures { (result ≡ unit s) × (0 < result) }
 {
-    x as u32
+    match s {
+        Set::Arm => 4,
+        Set::Thumb(_) => 2,
+    }
 }
 
-// The halfword, and the word, at a place where there are as many bytes.
-fn half_in(s: &[u8], at: usize) -> u32
-    requires { at + 2 ≤ length s.now }
-    ensures { (result ≡ half s.now at) × (result < 2 ^ 16) }
-{
-    wide(s[at]) + wide(s[at + 1]) * 256
+// A Thumb stretch.
+#[derive(Clone, Copy)]
+pub struct Stretch {
+    pub offset: u32,
+    pub bytes: u32,
 }
 
+impl Stretch {
+    // The place behind it.
+    pub fn end(self) -> usize
+        ensures { result ≡ end self }
+    {
+        self.offset as usize + self.bytes as usize
+    }
+
+    // Whether it is refused in an image of a size, where the stretch before it ends at a place.
+    fn is_wrong(self, size: usize, before: usize) -> bool
+        ensures { result ≡ wrong_pair size before self }
+    {
+        self.bytes == 0
+            || self.offset % 4 != 0
+            || self.bytes % 4 != 0
+            || size < self.end()
+            || (self.offset as usize) < before
+    }
+}
+
+// Byte i from a place on, or 0 past the end.
+fn byte_at(s: &[u8], at: usize, i: usize) -> u8
+    ensures { result ≡ slice_index s.now (at + i) }
+{
+    s.get(at.saturating_add(i)).copied().unwrap_or(0)
+}
+
+// The bytes from a place on; those past the end count as 0.
+fn bytes_at<const N: usize>(s: &[u8], at: usize) -> [u8; N]
+    ensures { (k : ℕ) → k < N → slice_index result k ≡ slice_index s.now (at + k) }
+{
+    let mut bytes = [0; N];
+    for (i, byte) in bytes.iter_mut().enumerate() {
+        *byte = byte_at(s, at, i);
+    }
+    bytes
+}
+
+// The word at a place where there are as many bytes.
+#[tactic(auto, unfolding(crate::specs::Bytes::word, crate::specs::Bytes::half))]
 fn word_in(s: &[u8], at: usize) -> u32
     requires { at + 4 ≤ length s.now }
     ensures { result ≡ word s.now at }
 {
-    half_in(s, at) + half_in(s, at + 2) * 65536
+    u32::from_le_bytes([s[at], s[at + 1], s[at + 2], s[at + 3]])
 }
 
-// The same at any place; bytes past the end count as 0.
-pub fn half_at(s: &[u8], at: usize) -> u32
-    ensures { (result ≡ half s.now at) × (result < 2 ^ 16) }
+// The halfword, and the word, at a place of some bytes; those past the end count as 0. Where there are enough they are read at once: by `bytes_at` alone a
+// listing of Thumb takes longer.
+#[tactic(auto, unfolding(crate::specs::Bytes::half))]
+pub fn half_at(s: &[u8], at: usize) -> u16
+    ensures { result ≡ half s.now at }
 {
-    if s.len() <= at {
-        return 0;
+    if 2 <= s.len() && at <= s.len() - 2 {
+        return u16::from_le_bytes([s[at], s[at + 1]]);
     }
-    if s.len() - at < 2 {
-        return wide(s[at]);
-    }
-    half_in(s, at)
+    u16::from_le_bytes(bytes_at(s, at))
 }
 
 pub fn word_at(s: &[u8], at: usize) -> u32
     ensures { result ≡ word s.now at }
 {
-    if s.len() <= at {
-        return 0;
-    }
-    if 4 <= s.len() - at {
+    if 4 <= s.len() && at <= s.len() - 4 {
         return word_in(s, at);
     }
-    if s.len() - at <= 2 {
-        return half_at(s, at);
+    u32::from_le_bytes(bytes_at(s, at))
+}
+
+// An image that is lent: its bytes, its Thumb stretches as pairs of offset and length, of 32 bits each, and the address of its first byte.
+#[derive(Clone, Copy)]
+pub struct Image<'a> {
+    pub bytes: &'a [u8],
+    pub stretches: &'a [u8],
+    pub base: u32,
+}
+
+impl<'a> Image<'a> {
+    // How many stretches there are, and which is number i of them.
+    fn count(self) -> usize
+        ensures { result ≡ length self.entry.stretches.now / 8 }
+    {
+        self.stretches.len() / 8
     }
-    half_in(s, at) + half_at(s, at + 2) * 65536
-}
 
-// The offset of pair i.
-fn offset_of(stretches: &[u8], i: usize) -> usize
-    requires { i < length stretches.now / 8 }
-    ensures { (result ≡ (pair_at stretches.now i).offset) × (result < 2 ^ 32) }
-{
-    word_in(stretches, 8 * i) as usize
-}
-
-// The length of pair i.
-fn length_of(stretches: &[u8], i: usize) -> usize
-    requires { i < length stretches.now / 8 }
-    ensures { (result ≡ (pair_at stretches.now i).bytes) × (result < 2 ^ 32) }
-{
-    word_in(stretches, 8 * i + 4) as usize
-}
-
-// The place behind the stretch of pair i.
-fn end_of(stretches: &[u8], i: usize) -> usize
-    requires { i < length stretches.now / 8 }
-    ensures { result ≡ end (pair_at stretches.now i) }
-{
-    offset_of(stretches, i) + length_of(stretches, i)
-}
-
-// From pair next on, the first whose end is past a place.
-pub fn first_left(stretches: &[u8], next: usize, at: usize) -> usize
-    ensures { result ≡ first_left stretches.now next at }
-{
-    let mut i = next;
-    while i < stretches.len() / 8 {
-        if at < end_of(stretches, i) {
-            return i;
+    fn stretch(self, i: usize) -> Stretch
+        requires { i < length self.stretches.now / 8 }
+        ensures { result ≡ pair_at self.entry.stretches.now i }
+    {
+        Stretch {
+            offset: word_in(self.stretches, 8 * i),
+            bytes: word_in(self.stretches, 8 * i + 4),
         }
-        i += 1;
     }
-    i
-}
 
-// The set at a place, by the pairs from number next on.
-pub fn set_at(stretches: &[u8], next: usize, at: usize) -> Set
-    ensures { result ≡ set_at (left stretches.now next) at }
-{
-    let i = first_left(stretches, next, at);
-    if i < stretches.len() / 8 {
-        if offset_of(stretches, i) <= at {
-            return Set::Thumb(end_of(stretches, i));
+    // From stretch next on, the first whose end is past a place. Inlined, a step of a listing takes no copy of the image.
+    #[inline(always)]
+    pub fn first_left(self, next: usize, at: usize) -> usize
+        ensures { result ≡ first_left self.entry.stretches.now next at }
+    {
+        for i in next..self.count() {
+            if at < self.stretch(i).end() {
+                return i;
+            }
         }
-        return Set::Arm;
+        next.max(self.count())
     }
-    Set::Arm
-}
 
-// Whether a pair is refused, for an image of a size, where the stretch before it ends at a place.
-fn wrong_pair(size: usize, before: usize, offset: usize, bytes: usize) -> bool
-    requires { (offset < 2 ^ 32) × (bytes < 2 ^ 32) }
-    ensures { result ≡ wrong_pair size before (record { offset = offset; bytes = bytes }) }
-{
-    if bytes == 0 {
-        return true;
-    }
-    if offset % 4 != 0 {
-        return true;
-    }
-    if bytes % 4 != 0 {
-        return true;
-    }
-    if size < offset + bytes {
-        return true;
-    }
-    offset < before
-}
-
-// Whether one of the pairs is refused, for an image of a size.
-fn wrong_pairs(size: usize, stretches: &[u8]) -> bool
-    ensures { result ≡ wrong_pairs size 0 (pairs stretches.now) }
-{
-    let mut before = 0;
-    let mut i = 0;
-    while i < stretches.len() / 8 {
-        if wrong_pair(
-            size,
-            before,
-            offset_of(stretches, i),
-            length_of(stretches, i),
-        ) {
-            return true;
+    // The set at a place, by the stretches from number next on.
+    pub fn set_at(self, next: usize, at: usize) -> Set
+        ensures { result ≡ set_at (left self.entry.stretches.now next) at }
+    {
+        let i = self.first_left(next, at);
+        if i < self.count() {
+            let stretch = self.stretch(i);
+            if stretch.offset as usize <= at {
+                return Set::Thumb(stretch.end());
+            }
         }
-        before = end_of(stretches, i);
-        i += 1;
+        Set::Arm
     }
-    false
-}
 
-// Whether an image is refused.
-fn wrong_image(image: &[u8]) -> bool
-    ensures { result ≡ wrong_image image.now }
-{
-    if 65536 < image.len() {
-        return true;
+    // Whether the bytes are refused.
+    fn wrong_bytes(self) -> bool
+        ensures { result ≡ wrong_image self.entry.bytes.now }
+    {
+        65536 < self.bytes.len() || self.bytes.len() % 4 != 0
     }
-    image.len() % 4 != 0
-}
 
-// Whether the list of its stretches is.
-fn wrong_list(image: &[u8], stretches: &[u8]) -> bool
-    ensures { result ≡ wrong_list image.now stretches.now }
-{
-    if stretches.len() % 8 != 0 {
-        return true;
+    // Whether one of the stretches is.
+    fn wrong_stretch(self) -> bool
+        ensures { result ≡ wrong_pairs (length self.entry.bytes.now) 0 (pairs self.entry.stretches.now) }
+    {
+        let size = self.bytes.len();
+        let mut before = 0;
+        for i in 0..self.count() {
+            let stretch = self.stretch(i);
+            if stretch.is_wrong(size, before) {
+                return true;
+            }
+            before = stretch.end();
+        }
+        false
     }
-    wrong_pairs(image.len(), stretches)
-}
 
-// 6 or 7 where an image or its stretches are refused, or 0.
-#[tactic(auto, unfolding(crate::specs::Refusal::refusal))]
-pub fn refusal(image: &[u8], stretches: &[u8]) -> u32
-    ensures { result ≡ refusal image.now stretches.now }
-{
-    let no_image = wrong_image(image);
-    let no_list = wrong_list(image, stretches);
-    if no_image {
-        return 6;
+    // Whether the list of them is.
+    fn wrong_stretches(self) -> bool
+        ensures { result ≡ wrong_list self.entry.bytes.now self.entry.stretches.now }
+    {
+        self.stretches.len() % 8 != 0 || self.wrong_stretch()
     }
-    if no_list {
-        return 7;
-    }
-    0
-}
 
-// Whether a place is no start of a word of a set.
-fn misplaced(s: Set, at: usize) -> bool
-    ensures { result ≡ uneven (unit s) at }
-{
-    match s {
-        Set::Arm => at % 4 != 0,
-        Set::Thumb(_) => at % 2 != 0,
+    // Whether bytes and stretches are those of an image.
+    #[tactic(auto, unfolding(crate::specs::Refusal::refusal))]
+    pub fn check(self) -> Result<(), Refusal>
+        ensures { result ≡ refusal self.entry.bytes.now self.entry.stretches.now }
+    {
+        let no_image = self.wrong_bytes();
+        let no_list = self.wrong_stretches();
+        if no_image {
+            return Err(Refusal::WrongImage);
+        }
+        if no_list {
+            return Err(Refusal::WrongStretches);
+        }
+        Ok(())
     }
-}
 
-// 6, 7 or 8 where an image, its stretches or a place in it are refused, or 0.
-pub fn refusal_at(image: &[u8], stretches: &[u8], at: usize) -> u32
-    ensures { result ≡ refusal_at image.now stretches.now at }
-{
-    let number = refusal(image, stretches);
-    if number != 0 {
-        return number;
+    // Whether a place is no start of a word.
+    fn wrong_place(self, at: usize) -> bool
+        ensures { result ≡ wrong_place self.entry.bytes.now self.entry.stretches.now at }
+    {
+        self.bytes.len() < at || at % unit(self.set_at(0, at)) != 0
     }
-    if image.len() < at {
-        return 8;
+
+    // The same, and whether a place in it is the start of a word, or the end.
+    #[tactic(auto, unfolding(crate::specs::Refusal::refusal_at))]
+    pub fn check_place(self, at: usize) -> Result<(), Refusal>
+        ensures { result ≡ refusal_at self.entry.bytes.now self.entry.stretches.now at }
+    {
+        self.check()?;
+        if self.wrong_place(at) {
+            return Err(Refusal::WrongPlace);
+        }
+        Ok(())
     }
-    if misplaced(set_at(stretches, 0, at), at) {
-        return 8;
-    }
-    0
 }

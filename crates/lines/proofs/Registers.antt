@@ -9,6 +9,7 @@ use mathlib.Core.List.{List, [], ◌++◌, ◌∷◌, append_assoc, append-nil, 
 use mathlib.Core.Path.{◌∙◌, ◌≡◌, refl, sym}
 use native.Mathlib.Nat.{add-zero, div-one, lt_of_lt_of_le, mod-eq_of_lt, mod-lt}
 use native.Mathlib.Omega.{arith}
+use Rattle.std.specs.Int.{bit_at}
 use Rattle.arm7tdmi.specs.Names.{reg_string}
 use Rattle.lines.specs.Pieces.{joined, listed, registers, set_bits}
 use Rattle.lines.specs.Position.{names, so_far}
@@ -36,6 +37,11 @@ low_zero raw i e =
 
 zero_low : (raw i : ℕ) → raw % 2 ^ i ≡ 0 → raw / 2 ^ i % 2 ≡ 0 → raw % 2 ^ suc i ≡ 0
 zero_low raw i a b = rw (split raw i, b, a) (omega arith)
+
+-- bits that are clear one by one
+pub clear_below : (n z : ℕ) → ((i : ℕ) → i < z → bit_at n i ≡ 0) → n % 2 ^ z ≡ 0
+clear_below n zero h = omega arith
+clear_below n (suc z) h = zero_low n z (clear_below n z (λ i l. h i (omega arith))) (h z (omega arith))
 
 none_below : (raw i : ℕ) → raw % 2 ^ i ≡ 0 → set_bits raw i ≡ []
 unfolding set_bits

@@ -7,11 +7,12 @@ use borrow.Author.Tests.{le-ltb, ltb-false}
 use lib.Dec.{ltb}
 use lib.ListN.{length, length-append, length-drop}
 use Rattle.common.proofs.Tests.{by_test}
+use Rattle.refusal.specs.Refusal.{number}
 use Rattle.lines.specs.Answer.{Answer, refused, line, given, printed}
 
 -- a refusal has a number, which is not the buffer's, and a line has room in 80 bytes
 abbrev pub Whole : Answer → Type 0
-Whole (refused n) = (0 < n) × (n ≡ 3 → ⊥)
+Whole (refused r) = (0 < number r) × (number r ≡ 3 → ⊥)
 Whole (line bs) = length bs ≤ 80
 
 -- a line into a buffer with room for any line
@@ -22,7 +23,7 @@ with_room bs l w h = rw (le-ltb (length l) (length bs) (omega arith))
 -- the buffer stays as long as it is
 pub print_kept : (a : Answer) (l : List ℕ) → length (printed a l).1 ≡ length l
 unfolding printed
-print_kept (refused n) l = refl
+print_kept (refused r) l = refl
 print_kept (line bs) l =
     by_test (ltb (length l) (length bs))
     (λ t. rw t)

@@ -1,5 +1,6 @@
 -- A listing that holds the image and its place: how it is opened and resumed, and what a step of it is. Assumes nothing.
-use Rattle.std.specs.Prelude.{◌≡◌, cond, List, [], ℕ, eqb}
+use Rattle.std.specs.Prelude.{◌≡◌, List, [], ℕ, Option, Some, None, Result, Ok, Err, ⊤}
+use Rattle.refusal.specs.declared.Refusal.{Refusal}
 use Rattle.image.specs.Refusal.{refusal_at}
 use Rattle.image.specs.Stretches.{first_left, left}
 use Rattle.steps.specs.Listed.{listed, next_place}
@@ -7,18 +8,24 @@ use Rattle.steps.specs.declared.Listed.{Listed}
 use Rattle.listing.specs.declared.Listing.{Listing}
 
 -- "A resumption refused with 6, 7 or 8 holds no bytes and stands at offset 0": what it holds of a list of bytes, and where it stands
-unfoldable pub held_of : List ℕ → ℕ → List ℕ
-held_of bytes number = cond (eqb number 0) bytes []
+abbrev pub held_of : List ℕ → Result ⊤ Refusal → List ℕ
+held_of bytes (Ok done) = bytes
+held_of bytes (Err r) = []
 
-unfoldable pub place_of : ℕ → ℕ → ℕ
-place_of offset number = cond (eqb number 0) offset 0
+abbrev pub place_of : ℕ → Result ⊤ Refusal → ℕ
+place_of offset (Ok done) = offset
+place_of offset (Err r) = 0
+
+abbrev pub refusal_of : Result ⊤ Refusal → Option Refusal
+refusal_of (Ok done) = None
+refusal_of (Err r) = Some r
 
 -- "put aside as its offset and resumed over the altered image": a listing of an image and its stretches that is resumed at an offset
 pub record Resumed (image list : List ℕ) (base offset : ℕ) (l : Listing) : Type 0 where
-  pub image_held : l.image.now ≡ held_of image (refusal_at image list offset)
-  pub stretches_held : l.stretches.now ≡ held_of list (refusal_at image list offset)
-  pub base_held : l.base ≡ base
-  pub number_held : l.number ≡ refusal_at image list offset
+  pub image_held : l.image.bytes.now ≡ held_of image (refusal_at image list offset)
+  pub stretches_held : l.image.stretches.now ≡ held_of list (refusal_at image list offset)
+  pub base_held : l.image.base ≡ base
+  pub refusal_held : l.refusal ≡ refusal_of (refusal_at image list offset)
   pub place_held : l.at ≡ place_of offset (refusal_at image list offset)
   pub next_first : l.next ≡ 0
 
@@ -28,11 +35,11 @@ Opened image list base l = Resumed image list base 0 l
 
 -- the answer of a step of a listing l into a buffer that holds ys, and what the buffer holds then
 abbrev pub step_from : Listing → List ℕ → Listed × List ℕ
-step_from l ys = listed l.image.now (left l.stretches.now l.next) l.base l.at ys
+step_from l ys = listed l.image.bytes.now (left l.image.stretches.now l.next) l.image.base l.at ys
 
 -- the listing behind an answer r: it stands at the next place, and passes by the pairs that ended before this one
 abbrev pub moved_on : Listing → Listed → Listing
-moved_on l r = record { image = l.image; stretches = l.stretches; base = l.base; number = l.number; at = next_place r; next = first_left l.stretches.now l.next l.at }
+moved_on l r = record { image = l.image; refusal = l.refusal; at = next_place r; next = first_left l.image.stretches.now l.next l.at }
 
 -- one step: the answer r and the buffer's bytes zs, and the listing l' behind it
 pub record SteppedIs (l : Listing) (ys : List ℕ) (r : Listed) (zs : List ℕ) (l' : Listing) : Type 0 where

@@ -3,7 +3,7 @@ use Rattle.std.specs.Prelude.{List, [], ◌∷◌, ℕ, zero, suc, take}
 use Rattle.lines.specs.Answer.{refused, line}
 use Rattle.steps.specs.Steps.{Step}
 use Rattle.steps.specs.declared.Listed.{Listed}
-use Rattle.steps.specs.declared.Listed.TheVariants.{Line, Refused, NoRoom, End, NoListing}
+use Rattle.steps.specs.declared.Listed.TheVariants.{Line, Refused, NoRoom, End}
 use Rattle.listing.specs.declared.Listing.{Listing}
 use Rattle.listing.specs.Listing.{step_from, moved_on}
 
@@ -13,7 +13,6 @@ shown (Line at bytes n) held behind = record { offset = at; bytes = bytes; shows
 shown (Refused k at bytes) held behind = record { offset = at; bytes = bytes; shows = refused k } ∷ behind
 shown (NoRoom at) held behind = []
 shown (End at) held behind = []
-shown (NoListing k) held behind = []
 
 -- the steps that a listing shows, call after call into one buffer until the end mark, in at most so many calls
 unfoldable pub run : Listing → List ℕ → ℕ → List Step

@@ -2,25 +2,13 @@
 #![tactic(auto)]
 
 ghost use Rattle.std.specs.Prelude.{◌≡◌};
-ghost use Rattle.image.specs.Refusal.{refusal_at};
 ghost use Rattle.image.specs.Stretches.{first_left, left};
 ghost use Rattle.steps.specs.Listed.{listed, next_place};
-ghost use Rattle.listing.specs.Listing.{held_of, place_of, Opened, Resumed, SteppedIs};
+ghost use Rattle.listing.specs.Listing.{Opened, Resumed, SteppedIs};
 
-use image::{first_left, refusal_at};
+use image::Image;
+use refusal::Refusal;
 use steps::{Listed, step_at};
-
-// An image and its Thumb stretches, lent, with the address of the image's first byte; 6, 7 or 8 where they or the offset were refused, or 0; the place; and
-// the number of the first pair that may still tell of it.
-#[derive(Clone, Copy)]
-pub struct Listing<'a> {
-    pub image: &'a [u8],
-    pub stretches: &'a [u8],
-    pub base: u32,
-    pub number: u32,
-    pub at: usize,
-    pub next: usize,
-}
 
 // What a step answers, and where the listing stands behind it.
 #[derive(Clone, Copy)]
@@ -30,46 +18,12 @@ pub struct Stepped {
     pub next: usize,
 }
 
-// 6, 7 or 8, or 0.
-fn resuming<'a>(image: &'a [u8], stretches: &'a [u8], offset: usize) -> u32
-    ensures { result ≡ refusal_at image.now stretches.now offset }
+// A step at a place, by the stretches from number next on.
+pub fn step_on(image: Image, at: usize, next: usize, line: &mut [u8]) -> Stepped
+    ensures { (listed image.entry.bytes.now (left image.entry.stretches.now next) image.entry.base at line.old ≡ (result.listed, line.new)) × (result.at ≡ next_place result.listed) × (result.next ≡ first_left image.entry.stretches.now next at) }
 {
-    refusal_at(image, stretches, offset)
-}
-
-// All bytes, or none of them under a refusal.
-fn held<'a>(s: &'a [u8], number: u32) -> &'a [u8]
-    ensures { result.now ≡ held_of s.now number }
-{
-    if number == 0 {
-        return s;
-    }
-    &s[..0]
-}
-
-// The offset, or 0 under a refusal.
-fn place(offset: usize, number: u32) -> usize
-    ensures { result ≡ place_of offset number }
-{
-    if number != 0 {
-        return 0;
-    }
-    offset
-}
-
-// A step at a place, by the pairs from number next on.
-pub fn step_on<'a, 'l>(
-    image: &'a [u8],
-    stretches: &'a [u8],
-    base: u32,
-    at: usize,
-    next: usize,
-    line: &'l mut [u8],
-) -> Stepped
-    ensures { (listed image.now (left stretches.now next) base at line.old ≡ (result.listed, line.new)) × (result.at ≡ next_place result.listed) × (result.next ≡ first_left stretches.now next at) }
-{
-    let i = first_left(stretches, next, at);
-    let listed = step_at(image, stretches, i, base, at, line);
+    let i = image.first_left(next, at);
+    let listed = step_at(image, i, at, line);
     Stepped {
         listed,
         at: at + listed.bytes(),
@@ -77,44 +31,62 @@ pub fn step_on<'a, 'l>(
     }
 }
 
-// A listing of an image, resumed at an offset.
-pub fn resume<'a>(image: &'a [u8], stretches: &'a [u8], base: u32, offset: usize) -> Listing<'a>
-    ensures { Resumed image.now stretches.now base offset result }
-{
-    let number = resuming(image, stretches, offset);
-    let xs = held(image, number);
-    let ss = held(stretches, number);
-    let at = place(offset, number);
-    Listing {
-        image: xs,
-        stretches: ss,
-        base,
-        number,
-        at,
-        next: 0,
+// The lent image, or one of no bytes where it, its stretches or the offset were refused, and by which refusal; the place; and the number of the first
+// stretch that may still tell of it.
+#[derive(Clone, Copy)]
+pub struct Listing<'a> {
+    pub image: Image<'a>,
+    pub refusal: Option<Refusal>,
+    pub at: usize,
+    pub next: usize,
+}
+
+impl<'a> Listing<'a> {
+    // A listing of an image, resumed at an offset.
+    pub fn resume(image: Image<'a>, offset: usize) -> Listing<'a>
+        ensures { Resumed image.entry.bytes.now image.entry.stretches.now image.entry.base offset result }
+    {
+        match image.check_place(offset) {
+            Ok(()) => Listing {
+                image,
+                refusal: None,
+                at: offset,
+                next: 0,
+            },
+            Err(refusal) => Listing {
+                image: Image {
+                    bytes: &[],
+                    stretches: &[],
+                    base: image.base,
+                },
+                refusal: Some(refusal),
+                at: 0,
+                next: 0,
+            },
+        }
     }
-}
 
-// A listing of an image from its start.
-pub fn open<'a>(image: &'a [u8], stretches: &'a [u8], base: u32) -> Listing<'a>
-    ensures { Opened image.now stretches.now base result }
-{
-    resume(image, stretches, base, 0)
-}
+    // A listing of an image from its start.
+    pub fn open(image: Image<'a>) -> Listing<'a>
+        ensures { Opened image.entry.bytes.now image.entry.stretches.now image.entry.base result }
+    {
+        Listing::resume(image, 0)
+    }
 
-// The place that a listing has come to: the offset that it is put aside as.
-pub fn offset<'a>(l: Listing<'a>) -> usize
-    ensures { result ≡ l.entry.at }
-{
-    l.at
-}
+    // The place that a listing has come to: the offset that it is put aside as.
+    pub fn offset(self) -> usize
+        ensures { result ≡ self.entry.at }
+    {
+        self.at
+    }
 
-// One step of a listing.
-pub fn step<'s, 'a, 'l>(l: &'s mut Listing<'a>, line: &'l mut [u8]) -> Listed
-    ensures { SteppedIs l.old line.old result line.new l.new }
-{
-    let s = step_on(l.image, l.stretches, l.base, l.at, l.next, line);
-    l.at = s.at;
-    l.next = s.next;
-    s.listed
+    // One step of a listing.
+    pub fn step(&mut self, line: &mut [u8]) -> Listed
+        ensures { SteppedIs self.old line.old result line.new self.new }
+    {
+        let s = step_on(self.image, self.at, self.next, line);
+        self.at = s.at;
+        self.next = s.next;
+        s.listed
+    }
 }

@@ -14,20 +14,23 @@ ghost use Rattle.pairs.specs.Read as Pair;
 ghost use Rattle.pairs.specs.Run.{pairing_index, pairing_number, unpaired};
 ghost use Rattle.steps.specs.Listed.{list_step};
 ghost use Rattle.patch.specs.Patch.{patched};
-ghost use Rattle.modestsilk.specs.Numbers.{form_of, numbers_of};
+ghost use Rattle.modestsilk.specs.Numbers.{form_of, numbers_of, patched_numbers, printed_numbers, refusal_number};
+ghost use Rattle.refusal.specs.Refusal.{numbers};
 
 use arm::arm_format;
 use arm_print::print_arm;
-use arm_read::{ArmRead, read_arm};
+use arm_read::read_arm;
 use arm7tdmi::Form;
+use image::Image;
 use pairs::print::print_pair;
-use pairs::read::{PairRead, read_pair};
-use pairs::run::{Pairing, unpaired};
+use pairs::read::read_pair;
+use pairs::run::unpaired;
 use patch::patch;
+use refusal::Refusal;
 use steps::list_step;
 use thumb::thumb_format;
 use thumb_print::print_thumb;
-use thumb_read::{ThumbRead, read_thumb};
+use thumb_read::read_thumb;
 
 fn form_of(n: u32) -> Form
     ensures { result ≡ form_of n }
@@ -44,7 +47,7 @@ pub extern "C" fn silk_kind_arm(form: u32, word: u32) -> u32
     ensures { result ≡ arm_number (arm_format (form_of form) word) }
 {
     let fmt = arm_format(form_of(form), word);
-    fmt.number()
+    u32::from(fmt)
 }
 
 // The number of the kind of a Thumb word.
@@ -53,7 +56,23 @@ pub extern "C" fn silk_kind_thumb(form: u32, word: u16) -> u32
     ensures { result ≡ thumb_number (thumb_format (form_of form) word) }
 {
     let fmt = thumb_format(form_of(form), word);
-    fmt.number()
+    u32::from(fmt)
+}
+
+// What a print answered, as numbers: the length behind the pointer, and the refusal's number, or 0.
+fn give_length(printed: Result<usize, Refusal>, length: &mut usize) -> u32
+    ensures { numbers printed ≡ (result, length.new) }
+{
+    match printed {
+        Ok(n) => {
+            *length = n;
+            0
+        }
+        Err(refusal) => {
+            *length = 0;
+            u32::from(refusal)
+        }
+    }
 }
 
 // The line of an ARM word into a buffer, its length behind the pointer; the answer is the refusal's number, or 0.
@@ -65,11 +84,10 @@ pub extern "C" fn silk_print_arm(
     line: &mut [u8],
     length: &mut usize,
 ) -> u32
-    ensures { printed (arm_line (form_of form) address word) line.old ≡ (record { number = result; length = length.new }, line.new) }
+    ensures { printed_numbers (printed (arm_line (form_of form) address word) line.old) ≡ (result, length.new, line.new) }
 {
     let p = print_arm(form_of(form), word, address, line);
-    *length = p.length;
-    p.number
+    give_length(p, length)
 }
 
 // The same for a Thumb word.
@@ -81,11 +99,10 @@ pub extern "C" fn silk_print_thumb(
     line: &mut [u8],
     length: &mut usize,
 ) -> u32
-    ensures { printed (thumb_line (form_of form) address word) line.old ≡ (record { number = result; length = length.new }, line.new) }
+    ensures { printed_numbers (printed (thumb_line (form_of form) address word) line.old) ≡ (result, length.new, line.new) }
 {
     let p = print_thumb(form_of(form), word, address, line);
-    *length = p.length;
-    p.number
+    give_length(p, length)
 }
 
 // The lowest ARM word that prints a line at an address, behind the pointer; the answer is 0, or 4 with word 0 where there is none.
@@ -94,11 +111,11 @@ pub extern "C" fn silk_read_arm(form: u32, address: u32, line: &[u8], word: &mut
     ensures { (result ≡ Arm.read_number (Arm.read_answer (form_of form) address line.now)) × (word.new ≡ Arm.read_word (Arm.read_answer (form_of form) address line.now)) }
 {
     match read_arm(form_of(form), address, line) {
-        ArmRead::Word(w) => {
+        Some(w) => {
             *word = w;
             0
         }
-        ArmRead::Nothing => {
+        None => {
             *word = 0;
             4
         }
@@ -111,11 +128,11 @@ pub extern "C" fn silk_read_thumb(form: u32, address: u32, line: &[u8], word: &m
     ensures { (result ≡ Thumb.read_number (Thumb.read_answer (form_of form) address line.now)) × (word.new ≡ Thumb.read_word (Thumb.read_answer (form_of form) address line.now)) }
 {
     match read_thumb(form_of(form), address, line) {
-        ThumbRead::Word(w) => {
+        Some(w) => {
             *word = w;
             0
         }
-        ThumbRead::Nothing => {
+        None => {
             *word = 0;
             4
         }
@@ -131,11 +148,10 @@ pub extern "C" fn silk_print_pair(
     line: &mut [u8],
     length: &mut usize,
 ) -> u32
-    ensures { printed (pair_line address first second) line.old ≡ (record { number = result; length = length.new }, line.new) }
+    ensures { printed_numbers (printed (pair_line address first second) line.old) ≡ (result, length.new, line.new) }
 {
     let p = print_pair(first, second, address, line);
-    *length = p.length;
-    p.number
+    give_length(p, length)
 }
 
 // The pair that prints a line at an address, behind the pointers; the answer is 0, or 4 with both halves 0 where there is none.
@@ -149,12 +165,12 @@ pub extern "C" fn silk_read_pair(
     ensures { (result ≡ Pair.read_number (Pair.pair_answer address line.now)) × (first.new ≡ Pair.read_first (Pair.pair_answer address line.now)) × (second.new ≡ Pair.read_second (Pair.pair_answer address line.now)) }
 {
     match read_pair(address, line) {
-        PairRead::Halves(a, b) => {
+        Some((a, b)) => {
             *first = a;
             *second = b;
             0
         }
-        PairRead::Nothing => {
+        None => {
             *first = 0;
             *second = 0;
             4
@@ -168,14 +184,24 @@ pub extern "C" fn silk_unpaired(halfwords: &[u16], index: &mut usize) -> u32
     ensures { (result ≡ pairing_number (unpaired halfwords.now)) × (index.new ≡ pairing_index (unpaired halfwords.now)) }
 {
     match unpaired(halfwords) {
-        Pairing::Lacks(i) => {
+        Some(i) => {
             *index = i;
             1
         }
-        Pairing::AllPaired => {
+        None => {
             *index = 0;
             0
         }
+    }
+}
+
+// The number of a refusal, or 0 for none.
+fn refusal_number(refusal: Option<Refusal>) -> u32
+    ensures { result ≡ refusal_number refusal }
+{
+    match refusal {
+        Some(refusal) => u32::from(refusal),
+        None => 0,
     }
 }
 
@@ -194,11 +220,25 @@ pub extern "C" fn silk_list_step(
 ) -> u32
     ensures { numbers_of (list_step image.now stretches.now base place line.old) ≡ (result, offset.new, bytes.new, length.new, line.new) }
 {
-    let s = list_step(image, stretches, base, place as usize, line);
-    *offset = s.offset() as u32;
-    *bytes = s.bytes() as u32;
-    *length = s.length();
-    s.number()
+    let lent = Image {
+        bytes: image,
+        stretches,
+        base,
+    };
+    match list_step(lent, place as usize, line) {
+        Ok(s) => {
+            *offset = s.offset() as u32;
+            *bytes = s.bytes() as u32;
+            *length = s.length();
+            refusal_number(s.refusal())
+        }
+        Err(refusal) => {
+            *offset = 0;
+            *bytes = 0;
+            *length = 0;
+            u32::from(refusal)
+        }
+    }
 }
 
 // Patches the word at an offset of an image by its sheet line; the answer is 0, or 6, 7, 8 or 4 and the image keeps its bytes.
@@ -210,7 +250,10 @@ pub extern "C" fn silk_patch(
     offset: u32,
     line: &[u8],
 ) -> u32
-    ensures { patched image.old stretches.now base offset line.now ≡ (result, image.new) }
+    ensures { patched_numbers (patched image.old stretches.now base offset line.now) ≡ (result, image.new) }
 {
-    patch(image, stretches, base, offset as usize, line)
+    match patch(image, stretches, base, offset as usize, line) {
+        Ok(()) => 0,
+        Err(refusal) => u32::from(refusal),
+    }
 }

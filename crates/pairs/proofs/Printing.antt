@@ -1,7 +1,8 @@
 -- Laws of the line of a pair: it has 13 bytes, and what is printed by what the code tests. Assumes nothing.
-use Rattle.std.proofs.Common.{◌≡◌, ℕ, ◌<◌, ◌≤◌, true, false, List, length, take, drop, replicate, sym, refl, true≢false, mod-lt, arith, take_at, le-ltb, lt-ltb}
+use Rattle.std.proofs.Common.{◌≡◌, ℕ, ◌<◌, ◌≤◌, true, false, List, length, take, drop, replicate, sym, refl, true≢false, mod-lt, arith, take_at, le-ltb, lt-ltb, Ok, Err}
 use Rattle.arm7tdmi.specs.declared.Form.TheVariants.{Sheet}
 use Rattle.common.proofs.Tests.{by_test}
+use Rattle.refusal.specs.declared.Refusal.TheVariants.{NoPair, NoRoom}
 use Rattle.lines.proofs.Address.{address_back, sheet_within}
 use Rattle.lines.specs.Answer.{line, printed, refused}
 use Rattle.reading.proofs.Demand.{line_is}
@@ -33,7 +34,7 @@ module _ (p first second : ℕ) where
   is_printed l h =
       by_test (is_pair first second)
       (λ e. let g : line (pair_text p first second) ≡ line l = rw e at h in (e, cc))
-      (λ e. absurd (true≢false (sym (line_is (refused 5) l (rw e at h)))))
+      (λ e. absurd (true≢false (sym (line_is (refused NoPair) l (rw e at h)))))
 
   pub pair_prints : is_pair first second ≡ true → pair_line p first second ≡ line (pair_text p first second)
   unfolding pair_line
@@ -41,16 +42,16 @@ module _ (p first second : ℕ) where
 
   -- what is printed into a buffer: refusal 5 before 3, and the line where there is room
   module _ (l : List ℕ) where
-    pub print_none : is_pair first second ≡ false → printed (pair_line p first second) l ≡ (record { number = 5; length = 0 }, l)
+    pub print_none : is_pair first second ≡ false → printed (pair_line p first second) l ≡ (Err NoPair, l)
     unfolding pair_line printed
     print_none e = rw e
 
-    pub print_short : is_pair first second ≡ true → length l < 13 → printed (pair_line p first second) l ≡ (record { number = 3; length = 0 }, l)
+    pub print_short : is_pair first second ≡ true → length l < 13 → printed (pair_line p first second) l ≡ (Err NoRoom, l)
     unfolding pair_line printed
     print_short e h = rw (e, pair_length, lt-ltb (length l) 13 h)
 
     pub print_room : {l' : List ℕ} {r : ℕ} → is_pair first second ≡ true → 13 ≤ length l → Wrote l 0 (pair_text p first second) l' r
-        → printed (pair_line p first second) l ≡ (record { number = 0; length = r }, l')
+        → printed (pair_line p first second) l ≡ (Ok r, l')
     unfolding pair_line printed
     print_room e h w =
         let n = pair_length in

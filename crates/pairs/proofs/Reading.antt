@@ -1,5 +1,5 @@
 -- Reading a pair back: the halves for the distance that a line shows are the only ones that may print it. Assumes nothing.
-use Rattle.std.proofs.Common.{◌≡◌, ℕ, ◌-◌, ◌/◌, ◌%◌, ◌^◌, ◌<◌, ◌≤◌, true, false, cond, List, length, take, drop, ap, ◌∙◌, arith, lt-ltb}
+use Rattle.std.proofs.Common.{◌≡◌, ℕ, ◌-◌, ◌/◌, ◌%◌, ◌^◌, ◌<◌, ◌≤◌, true, false, cond, List, length, take, drop, ap, ◌∙◌, arith, lt-ltb, Some, None}
 use Rattle.common.proofs.Lists.{part_rest}
 use Rattle.common.specs.Lists.{same}
 use Rattle.lines.specs.Answer.{line}
@@ -8,7 +8,6 @@ use Rattle.text.specs.Digits.{value}
 use Rattle.pairs.specs.Print.{pair_line, pair_text}
 use Rattle.pairs.specs.Candidate.{distance, first_for, second_for}
 use Rattle.pairs.specs.Read.{joined, joined_line, pair_answer, read_pair}
-use Rattle.pairs.specs.declared.read.PairRead.TheVariants.{Halves, Nothing}
 use Rattle.pairs.proofs.Halves.{halves_back, pair_for}
 use Rattle.pairs.proofs.Printing.{is_printed, pair_length, pair_prints, target_back}
 
@@ -51,21 +50,21 @@ module _ (p : ℕ) (l : List ℕ) where
     tried : (f ≡ first_for shown) × (s ≡ second_for shown)
     tried = let q : v ≡ value 16 (drop 5 l) = hv ∙ ap (λ (x : List ℕ). value 16 x) (part_rest l 5) in (rw (hf, hd, q), rw (hs, hd, q))
 
-    pub read_some : same (pair_text p f s) l ≡ true → Halves f s ≡ pair_answer p l
+    pub read_some : same (pair_text p f s) l ≡ true → Some (f, s) ≡ pair_answer p l
     unfolding pair_answer
     read_some h =
         let e : same (pair_text p (first_for shown) (second_for shown)) l ≡ true = rw (← tried.0, ← tried.1) h in
         let q = parts (first_for shown) (second_for shown) (omega arith) in
         rw (tried.0, tried.1, read_candidate, e, lt-ltb candidate (2 ^ 32) (omega arith), q.0, q.1)
 
-    pub read_none : same (pair_text p f s) l ≡ false → Nothing ≡ pair_answer p l
+    pub read_none : same (pair_text p f s) l ≡ false → None ≡ pair_answer p l
     unfolding pair_answer
     read_none h =
         let e : same (pair_text p (first_for shown) (second_for shown)) l ≡ false = rw (← tried.0, ← tried.1) h in
         rw (read_candidate, e)
 
 -- a line of another length
-pub wrong_length : (p : ℕ) (l : List ℕ) → (length l ≡ 13 → ⊥) → pair_answer p l ≡ Nothing
+pub wrong_length : (p : ℕ) (l : List ℕ) → (length l ≡ 13 → ⊥) → pair_answer p l ≡ None
 unfolding pair_answer read_pair
 wrong_length p l h =
     rw (none_read (joined_line p) (2 ^ 32) l

@@ -1,10 +1,9 @@
 -- The steps of the check of a run. Assumes nothing.
-use Rattle.std.proofs.Common.{◌≡◌, ℕ, ◌+◌, ◌<◌, ◌≤◌, Bool, true, false, not, ◌||◌, List, length, refl, add-one, arith, le-ltb, lt-ltb}
+use Rattle.std.proofs.Common.{◌≡◌, ℕ, ◌+◌, ◌<◌, ◌≤◌, Bool, true, false, not, ◌||◌, List, length, refl, add-one, arith, le-ltb, lt-ltb, Some, None}
 use Rattle.common.proofs.Lowest.{lowest_at_most, lowest_step}
 use Rattle.common.specs.Lowest.{lowest}
 use Rattle.thumb.specs.Pair.{is_first_half, is_second_half}
 use Rattle.pairs.specs.Run.{first_unpaired, half_at, half_before, lacks, lacks_at, unpaired}
-use Rattle.pairs.specs.declared.run.Pairing.TheVariants.{AllPaired, Lacks}
 use Rattle.pairs.proofs.Halves.{not_both}
 
 or_none : (b : Bool) → (b || false) ≡ b
@@ -34,13 +33,13 @@ module _ (run : List ℕ) (i : ℕ) where
   unfolding first_unpaired
   goes_on h l e = lowest_step (lacks_at run) (length run) i h l e
 
-  pub found : i ≤ first_unpaired run → i < length run → lacks_at run i ≡ true → Lacks i ≡ unpaired run
+  pub found : i ≤ first_unpaired run → i < length run → lacks_at run i ≡ true → Some i ≡ unpaired run
   unfolding first_unpaired unpaired
   found h l e =
       let m = lowest_at_most (lacks_at run) (length run) i e in
       let q : lowest (lacks_at run) (length run) ≡ i = omega (arith, m, h) in
       rw (q, lt-ltb i (length run) l)
 
-  pub ran_out : i ≤ first_unpaired run → length run ≤ i → AllPaired ≡ unpaired run
+  pub ran_out : i ≤ first_unpaired run → length run ≤ i → None ≡ unpaired run
   unfolding first_unpaired unpaired
   ran_out h l = rw (le-ltb (lowest (lacks_at run) (length run)) (length run) (omega (arith, h)))

@@ -1,10 +1,8 @@
 -- Read of a call pair. Assumes nothing.
-use Rattle.std.specs.Prelude.{ℕ, ◌+◌, ◌*◌, ◌/◌, ◌%◌, ◌^◌, cond, List, nat_lt}
+use Rattle.std.specs.Prelude.{ℕ, ◌+◌, ◌*◌, ◌/◌, ◌%◌, ◌^◌, cond, List, nat_lt, Option, Some, None}
 use Rattle.lines.specs.Answer.{Answer}
 use Rattle.reading.specs.Read.{read_back}
 use Rattle.pairs.specs.Print.{pair_line}
-use Rattle.pairs.specs.declared.read.PairRead.{PairRead}
-use Rattle.pairs.specs.declared.read.PairRead.TheVariants.{Halves, Nothing}
 
 -- two halfwords as one number, and the line of the two that a number holds
 abbrev pub joined : ℕ → ℕ → ℕ
@@ -18,22 +16,22 @@ unfoldable pub read_pair : ℕ → List ℕ → ℕ
 read_pair p l = read_back (joined_line p) (2 ^ 32) l
 
 -- a number below 2 ^ 32 is the two halves read; any other says that there are none
-abbrev pub answer_of : ℕ → PairRead
-answer_of n = cond (nat_lt n (2 ^ 32)) (Halves (n / 2 ^ 16) (n % 2 ^ 16)) Nothing
+abbrev pub answer_of : ℕ → Option (ℕ × ℕ)
+answer_of n = cond (nat_lt n (2 ^ 32)) (Some (n / 2 ^ 16, n % 2 ^ 16)) None
 
 -- the answer for a line at an address
-unfoldable pub pair_answer : ℕ → List ℕ → PairRead
+unfoldable pub pair_answer : ℕ → List ℕ → Option (ℕ × ℕ)
 pair_answer p l = answer_of (read_pair p l)
 
 -- document 02's number and halves of an answer: "otherwise gets 4 with both halves 0"
-abbrev pub read_number : PairRead → ℕ
-read_number (Halves first second) = 0
-read_number Nothing = 4
+abbrev pub read_number : Option (ℕ × ℕ) → ℕ
+read_number (Some halves) = 0
+read_number None = 4
 
-abbrev pub read_first : PairRead → ℕ
-read_first (Halves first second) = first
-read_first Nothing = 0
+abbrev pub read_first : Option (ℕ × ℕ) → ℕ
+read_first (Some halves) = halves.0
+read_first None = 0
 
-abbrev pub read_second : PairRead → ℕ
-read_second (Halves first second) = second
-read_second Nothing = 0
+abbrev pub read_second : Option (ℕ × ℕ) → ℕ
+read_second (Some halves) = halves.1
+read_second None = 0

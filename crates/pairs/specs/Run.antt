@@ -1,9 +1,7 @@
 -- A run of halfwords: the earliest half that lacks its partner. Assumes nothing.
-use Rattle.std.specs.Prelude.{ℕ, ◌+◌, Bool, cond, not, ◌&&◌, ◌||◌, List, ◌∷◌, length, nat_lt, slice_index}
+use Rattle.std.specs.Prelude.{ℕ, ◌+◌, Bool, cond, not, ◌&&◌, ◌||◌, List, ◌∷◌, length, nat_lt, slice_index, Option, Some, None}
 use Rattle.common.specs.Lowest.{lowest}
 use Rattle.thumb.specs.Pair.{is_first_half, is_second_half}
-use Rattle.pairs.specs.declared.run.Pairing.{Pairing}
-use Rattle.pairs.specs.declared.run.Pairing.TheVariants.{Lacks, AllPaired}
 
 -- "lacks its partner (directly behind a first half, directly before a second)": a halfword, with the one before it and the one behind it
 unfoldable pub lacks : ℕ → ℕ → ℕ → Bool
@@ -24,17 +22,17 @@ unfoldable pub first_unpaired : List ℕ → ℕ
 first_unpaired run = lowest (lacks_at run) (length run)
 
 -- "or says that all are paired"
-abbrev pub pairing_of : ℕ → ℕ → Pairing
-pairing_of count i = cond (nat_lt i count) (Lacks i) AllPaired
+abbrev pub pairing_of : ℕ → ℕ → Option ℕ
+pairing_of count i = cond (nat_lt i count) (Some i) None
 
-unfoldable pub unpaired : List ℕ → Pairing
+unfoldable pub unpaired : List ℕ → Option ℕ
 unpaired run = pairing_of (length run) (first_unpaired run)
 
 -- an answer as numbers: 1 and the index, or 0 and index 0 where all are paired
-abbrev pub pairing_number : Pairing → ℕ
-pairing_number (Lacks i) = 1
-pairing_number AllPaired = 0
+abbrev pub pairing_number : Option ℕ → ℕ
+pairing_number (Some i) = 1
+pairing_number None = 0
 
-abbrev pub pairing_index : Pairing → ℕ
-pairing_index (Lacks i) = i
-pairing_index AllPaired = 0
+abbrev pub pairing_index : Option ℕ → ℕ
+pairing_index (Some i) = i
+pairing_index None = 0

@@ -4,7 +4,7 @@ use mathlib.Core.Bool.{cond}
 use mathlib.Core.List.{List}
 use Prim.Native.Nat.{ℕ, ◌+◌, ◌%◌, ◌^◌, ◌<◌, ◌≤◌}
 use native.Mathlib.Omega.{arith}
-use borrow.Author.Tests.{eqb-true, eq-eqb, leb-false}
+use borrow.Author.Tests.{leb-false}
 use lib.Dec.{eqb, leb, ltb}
 use lib.ListN.{length}
 use Rattle.common.proofs.Tests.{by_test}
@@ -17,12 +17,16 @@ use Rattle.image.specs.Refusal.{refusal_at, unit}
 use Rattle.image.specs.Stretches.{pairs, set_at}
 use Rattle.image.specs.declared.Set.{Set}
 use Rattle.image.specs.declared.Set.TheVariants.{Arm, Thumb}
-use Rattle.image.proofs.Valid.{valid, placed, not_refused}
+use Rattle.image.proofs.Valid.{valid, place_passed, placed, not_refused}
+use Rattle.std.proofs.Common.{Result, Ok, Err}
+use Rattle.std.specs.Prelude.{⊤}
+use Rattle.refusal.specs.declared.Refusal.{Refusal}
+use Rattle.refusal.specs.declared.Refusal.TheVariants.{NoWord}
 use Rattle.patch.specs.Patch.{patch_refusal, patched_in, with_number}
 
 -- ---- by the number and the word of a read
-abbrev answered : List ℕ → ℕ → ℕ → ℕ → ℕ → ℕ × List ℕ
-answered image at width number word = cond (eqb number 0) (0, with_number image at width word) (number, image)
+abbrev answered : List ℕ → ℕ → ℕ → ℕ → ℕ → Result ⊤ Refusal × List ℕ
+answered image at width number word = cond (eqb number 0) (Ok tt, with_number image at width word) (Err NoWord, image)
 
 module _ (image : List ℕ) (p at : ℕ) (l : List ℕ) where
   pub arm_answer : patched_in image Arm p at l ≡ answered image at 4 (ArmAnswer.read_number (ArmAnswer.read_answer Sheet p l)) (ArmAnswer.read_word (ArmAnswer.read_answer Sheet p l))
@@ -34,18 +38,15 @@ module _ (image : List ℕ) (p at : ℕ) (l : List ℕ) where
   thumb_answer e = by_test (ltb (read_thumb Sheet p l) (2 ^ 16)) (λ t. rw t) (λ t. rw t)
 
 -- ---- a place that is not refused for a patch
-module _ (image list : List ℕ) (at : ℕ) (e : patch_refusal image list at ≡ 0) where
+module _ (image list : List ℕ) (at : ℕ) (e : patch_refusal image list at ≡ Ok tt) where
   -- is not for a listing either, and lies before the end
-  pub may_resume : refusal_at image list at ≡ 0
+  pub may_resume : refusal_at image list at ≡ Ok tt
   unfolding patch_refusal
-  may_resume = by_test (eqb (refusal_at image list at) 0) (λ t. eqb-true _ _ t) (λ t. rw t at e)
+  may_resume = (place_passed (refusal_at image list at) (leb (length image) at) e).0
 
   pub before_end : at < length image
   unfolding patch_refusal
-  before_end =
-      by_test (leb (length image) at)
-      (λ t. let z : ◌≡◌ {A = ℕ} 8 0 = rw (eq-eqb (refusal_at image list at) 0 may_resume, t) at e in absurd (omega arith))
-      (λ t. leb-false _ _ t)
+  before_end = leb-false _ _ (place_passed (refusal_at image list at) (leb (length image) at) e).1
 
   -- so there is room for a word of the set there
   room_in : (s : Set) → at % unit s ≡ 0 → length image % 4 ≡ 0 → at < length image → at + unit s ≤ length image

@@ -6,8 +6,8 @@ use mathlib.Core.Logic.{inr}
 use Prim.Native.Nat.{ℕ, ◌+◌, ◌<◌, ◌≤◌}
 use native.Mathlib.Nat.{le_refl}
 use native.Mathlib.Omega.{arith}
-use borrow.Author.Tests.{eqb-true, eq-eqb, le-ltb, lt-ltb, ltb-false, ltb-true}
-use lib.Dec.{eqb, leb, ltb}
+use borrow.Author.Tests.{le-ltb, lt-ltb, ltb-false, ltb-true}
+use lib.Dec.{leb, ltb}
 use lib.ListN.{length, drop, get_or}
 use Rattle.common.proofs.Tests.{by_test}
 use Rattle.arm7tdmi.specs.Signed.{moved}
@@ -21,10 +21,16 @@ use Rattle.image.specs.Stretches.{pairs, set_at}
 use Rattle.image.specs.declared.Set.{Set}
 use Rattle.image.specs.declared.Set.TheVariants.{Arm, Thumb}
 use Rattle.image.proofs.Valid.{valid, placed, not_refused}
+use Rattle.std.proofs.Common.{Result, Ok, Err}
+use Rattle.std.specs.Prelude.{⊤}
+use Rattle.refusal.specs.Refusal.{number}
+use Rattle.refusal.specs.declared.Refusal.{Refusal}
+use Rattle.refusal.specs.declared.Refusal.TheVariants.{NoWord, WrongImage, WrongStretches, WrongPlace}
 use Rattle.steps.specs.Steps.{call_pair, has_step, span_at, span_bytes, span_in, span_line, steps}
-use Rattle.steps.specs.Listed.{list_step}
+use Rattle.steps.specs.Listed.{list_step, listed}
+use Rattle.steps.specs.declared.Listed.{Listed}
 use Rattle.steps.specs.declared.Listed.TheVariants.{Line}
-use Rattle.steps.proofs.Answers.{listed_line, span_whole}
+use Rattle.steps.proofs.Answers.{listed_line, span_whole, step_given}
 use Rattle.steps.proofs.Steps.{step_there, steps_next}
 use Rattle.patch.specs.Patch.{joins, patched, patched_in, patch_refusal, read_in, stored, word_in, word_line, words_of}
 use Rattle.patch.proofs.Answered.{before_end, may_resume, room}
@@ -62,7 +68,7 @@ pair_apart (Thumb n) p at w behind l j h e f = no_half p p w behind w h (e ∙ s
 
 -- ---- what is refused, and what is stored
 -- whatever its line, a patch is refused with 6, 7 or 8 alone
-place_number : (P : ℕ → Type 0) (image list : List ℕ) (at : ℕ) → P 0 → P 6 → P 7 → P 8 → P (patch_refusal image list at)
+place_number : (P : Result ⊤ Refusal → Type 0) (image list : List ℕ) (at : ℕ) → P (Ok tt) → P (Err WrongImage) → P (Err WrongStretches) → P (Err WrongPlace) → P (patch_refusal image list at)
 unfolding patch_refusal refusal_at refusal
 place_number P image list at none six seven eight =
     by_test (wrong_image image)
@@ -73,6 +79,26 @@ place_number P image list at none six seven eight =
     (λ c. rw (a, b, c) eight)
     (λ c. by_test (leb (length image) at) (λ d. rw (a, b, c, d) eight) (λ d. rw (a, b, c, d) none))))
 
+-- by what a check answered
+by_check : {C : Type 0} (x : Result ⊤ Refusal) → (x ≡ Ok tt → C) → ((r : Refusal) → x ≡ Err r → C) → C
+by_check (Ok done) f g = f refl
+by_check (Err r) f g = g r refl
+
+apart : {r : Refusal} → ◌≡◌ {A = Result ⊤ Refusal} (Ok tt) (Err r) → ⊥
+apart e = let z : ◌≡◌ {A = ℕ} 0 1 = cc in omega arith
+
+other : {r : Refusal} → (number r ≡ 4 → ⊥) → ◌≡◌ {A = Result ⊤ Refusal} (Err r) (Err NoWord) → ⊥
+other {r} f e = let q : r ≡ NoWord = cc in f (ap number q)
+
+abbrev answer : Result ⊤ Refusal × List ℕ → Result ⊤ Refusal
+answer z = z.0
+
+abbrev step_answer : Listed × List ℕ → Result Listed Refusal × List ℕ
+step_answer z = (Ok z.0, z.1)
+
+abbrev then : Result ⊤ Refusal × List ℕ → List ℕ
+then z = z.1
+
 module _ (image list : List ℕ) (base at : ℕ) (l : List ℕ) where
   abbrev s : Set
   s = set_at (pairs list) at
@@ -81,53 +107,53 @@ module _ (image list : List ℕ) (base at : ℕ) (l : List ℕ) where
   p = moved base at
 
   -- where the place is not refused: 4 if no word of the set there prints the line, and nothing is written
-  pub none_four : patch_refusal image list at ≡ 0 → ((w : ℕ) → w < words_of s → word_line s p w ≡ line l → ⊥) → patched image list base at l ≡ (4, image)
+  pub none_four : patch_refusal image list at ≡ Ok tt → ((w : ℕ) → w < words_of s → word_line s p w ≡ line l → ⊥) → patched image list base at l ≡ (Err NoWord, image)
   unfolding patched patched_in
-  none_four e n = rw (eq-eqb (patch_refusal image list at) 0 e, none_read (word_line s p) (words_of s) l n, le-ltb (words_of s) (words_of s) (le_refl (words_of s)))
+  none_four e n = rw (e, none_read (word_line s p) (words_of s) l n, le-ltb (words_of s) (words_of s) (le_refl (words_of s)))
 
   -- and only then
-  pub four_none : (image' : List ℕ) → patched image list base at l ≡ (4, image') → (w : ℕ) → w < words_of s → word_line s p w ≡ line l → ⊥
+  pub four_none : (image' : List ℕ) → patched image list base at l ≡ (Err NoWord, image') → (w : ℕ) → w < words_of s → word_line s p w ≡ line l → ⊥
   unfolding patched patched_in
   four_none image' e w h q =
-      by_test (eqb (patch_refusal image list at) 0)
+      by_check (patch_refusal image list at)
       (λ t. by_test (ltb (read_in s p l) (words_of s))
-      (λ u. let z : ◌≡◌ {A = ℕ} 0 4 = ap (λ (z : ℕ × List ℕ). z.0) (rw (t, u) at e) in absurd (omega arith))
+      (λ u. let z : ◌≡◌ {A = Result ⊤ Refusal} (Ok tt) (Err NoWord) = ap answer (rw (t, u) at e) in absurd (apart z))
       (λ u. let m = read_most (word_line s p) (words_of s) l in let n = ltb-false (read_in s p l) (words_of s) u in
       none_prints (word_line s p) (words_of s) l (omega (arith, m, n)) w h q))
-      (λ t. let z : patch_refusal image list at ≡ 4 = ap (λ (z : ℕ × List ℕ). z.0) (rw t at e) in
-      place_number (λ (n : ℕ). n ≡ 4 → ⊥) image list at (λ y. omega arith) (λ y. omega arith) (λ y. omega arith) (λ y. omega arith) z)
+      (λ r t. let z : ◌≡◌ {A = Result ⊤ Refusal} (Err r) (Err NoWord) = ap answer (rw t at e) in
+      place_number (λ (x : Result ⊤ Refusal). x ≡ Err NoWord → ⊥) image list at apart (other (λ y. omega arith)) (other (λ y. omega arith)) (other (λ y. omega arith)) (t ∙ z))
 
   -- else the lowest that does is written
-  pub some_stored : patch_refusal image list at ≡ 0 → (w : ℕ) → w < words_of s → word_line s p w ≡ line l → OthersHigher (word_line s p) (words_of s) l w
-      → patched image list base at l ≡ (0, stored image s at w)
+  pub some_stored : patch_refusal image list at ≡ Ok tt → (w : ℕ) → w < words_of s → word_line s p w ≡ line l → OthersHigher (word_line s p) (words_of s) l w
+      → patched image list base at l ≡ (Ok tt, stored image s at w)
   unfolding patched patched_in
-  some_stored e w h q o = rw (eq-eqb (patch_refusal image list at) 0 e, prints_read (word_line s p) (words_of s) l w h q o, lt-ltb w (words_of s) h)
+  some_stored e w h q o = rw (e, prints_read (word_line s p) (words_of s) l w h q o, lt-ltb w (words_of s) h)
 
   -- "A refused patch writes nothing."
-  pub refused_keeps : (n : ℕ) (image' : List ℕ) → patched image list base at l ≡ (n, image') → (n ≡ 0 → ⊥) → image' ≡ image
+  pub refused_keeps : (r : Refusal) (image' : List ℕ) → patched image list base at l ≡ (Err r, image') → image' ≡ image
   unfolding patched patched_in
-  refused_keeps n image' e f =
-      by_test (eqb (patch_refusal image list at) 0)
+  refused_keeps r image' e =
+      by_check (patch_refusal image list at)
       (λ t. by_test (ltb (read_in s p l) (words_of s))
-      (λ u. let q : ◌≡◌ {A = ℕ × List ℕ} (0, stored image s at (read_in s p l)) (n, image') = rw (t, u) at e in absurd (f (sym (ap (λ (z : ℕ × List ℕ). z.0) q))))
-      (λ u. let q : ◌≡◌ {A = ℕ × List ℕ} (4, image) (n, image') = rw (t, u) at e in sym (ap (λ (z : ℕ × List ℕ). z.1) q)))
-      (λ t. let q : ◌≡◌ {A = ℕ × List ℕ} (patch_refusal image list at, image) (n, image') = rw t at e in sym (ap (λ (z : ℕ × List ℕ). z.1) q))
+      (λ u. let z : ◌≡◌ {A = Result ⊤ Refusal} (Ok tt) (Err r) = ap answer (rw (t, u) at e) in absurd (apart z))
+      (λ u. let q : ◌≡◌ {A = Result ⊤ Refusal × List ℕ} (Err NoWord, image) (Err r, image') = rw (t, u) at e in sym (ap then q)))
+      (λ n t. let q : ◌≡◌ {A = Result ⊤ Refusal × List ℕ} (Err n, image) (Err r, image') = rw t at e in sym (ap then q))
 
-  -- the number is 0, or 6, 7, 8 or 4
-  pub patch_number : (P : ℕ → Type 0) → P 0 → P 4 → P 6 → P 7 → P 8 → P (patched image list base at l).0
+  -- it is done, or refused with 6, 7, 8 or 4
+  pub patch_number : (P : Result ⊤ Refusal → Type 0) → P (Ok tt) → P (Err NoWord) → P (Err WrongImage) → P (Err WrongStretches) → P (Err WrongPlace) → P (patched image list base at l).0
   unfolding patched patched_in
   patch_number P none four six seven eight =
-      by_test (eqb (patch_refusal image list at) 0)
+      by_check (patch_refusal image list at)
       (λ t. by_test (ltb (read_in s p l) (words_of s)) (λ u. rw (t, u) none) (λ u. rw (t, u) four))
-      (λ t. rw t (place_number P image list at none six seven eight))
+      (λ r t. rw t (rw t at (place_number P image list at none six seven eight)))
 
 -- "a pair needs two patches": in Thumb the line of a pair is refused with 4
-pub pair_four : (image list : List ℕ) (base at e q first second : ℕ) → patch_refusal image list at ≡ 0 → set_at (pairs list) at ≡ Thumb e → patched image list base at (pair_text q first second) ≡ (4, image)
+pub pair_four : (image list : List ℕ) (base at e q first second : ℕ) → patch_refusal image list at ≡ Ok tt → set_at (pairs list) at ≡ Thumb e → patched image list base at (pair_text q first second) ≡ (Err NoWord, image)
 pair_four image list base at e q first second r t =
     none_four image list base at (pair_text q first second) r (rw t (λ w h f. no_half (moved base at) q first second w h f))
 
 -- ---- a patch that is not refused
-module _ (image list : List ℕ) (base at : ℕ) (l image' : List ℕ) (e : patched image list base at l ≡ (0, image')) where
+module _ (image list : List ℕ) (base at : ℕ) (l image' : List ℕ) (e : patched image list base at l ≡ (Ok tt, image')) where
   abbrev set : Set
   set = set_at (pairs list) at
 
@@ -141,23 +167,20 @@ module _ (image list : List ℕ) (base at : ℕ) (l image' : List ℕ) (e : patc
   abbrev behind : ℕ
   behind = half image (at + 2)
 
-  allowed : patch_refusal image list at ≡ 0
+  allowed : patch_refusal image list at ≡ Ok tt
   unfolding patched
-  allowed =
-      by_test (eqb (patch_refusal image list at) 0)
-      (λ t. eqb-true _ _ t)
-      (λ t. let q : ◌≡◌ {A = ℕ × List ℕ} (patch_refusal image list at, image) (0, image') = rw t at e in ap (λ (z : ℕ × List ℕ). z.0) q)
+  allowed = by_check (patch_refusal image list at) (λ t. t) (λ r t. let z : ◌≡◌ {A = Result ⊤ Refusal} (Err r) (Ok tt) = ap answer (rw t at e) in absurd (apart (sym z)))
 
-  in_set : patched_in image set pc at l ≡ (0, image')
+  in_set : patched_in image set pc at l ≡ (Ok tt, image')
   unfolding patched
-  in_set = rw (eq-eqb (patch_refusal image list at) 0 allowed) at e
+  in_set = rw allowed at e
 
   done : (w < words_of set) × (image' ≡ stored image set at w)
   unfolding patched_in
   done =
       by_test (ltb w (words_of set))
-      (λ t. let q : ◌≡◌ {A = ℕ × List ℕ} (0, stored image set at w) (0, image') = rw t at in_set in (ltb-true _ _ t, sym (ap (λ (z : ℕ × List ℕ). z.1) q)))
-      (λ t. let q : ◌≡◌ {A = ℕ × List ℕ} (4, image) (0, image') = rw t at in_set in let z : ◌≡◌ {A = ℕ} 4 0 = ap (λ (z : ℕ × List ℕ). z.0) q in absurd (omega arith))
+      (λ t. let q : ◌≡◌ {A = Result ⊤ Refusal × List ℕ} (Ok tt, stored image set at w) (Ok tt, image') = rw t at in_set in (ltb-true _ _ t, sym (ap then q)))
+      (λ t. let z : ◌≡◌ {A = Result ⊤ Refusal} (Err NoWord) (Ok tt) = ap answer (rw t at in_set) in absurd (apart (sym z)))
 
   -- the word stands there: the lowest of the set that prints the line
   pub word_there : word_in image' set at ≡ w
@@ -192,7 +215,7 @@ module _ (image list : List ℕ) (base at : ℕ) (l image' : List ℕ) (e : patc
   words_kept k a = rw done.1 (word_kept image set at w k a)
 
   -- ---- the step there, of the altered image
-  fine : refusal_at image' list at ≡ 0
+  fine : refusal_at image' list at ≡ Ok tt
   fine = places_kept at ∙ may_resume image list at allowed
 
   has_step_lem : has_step image' (pairs list) at ≡ true
@@ -208,12 +231,13 @@ module _ (image list : List ℕ) (base at : ℕ) (l image' : List ℕ) (e : patc
   pub shows_line : joins set at w behind ≡ false → steps image' list base at ≡ record { offset = at; bytes = unit set; shows = line l } ∷ steps image' list base (at + unit set)
   shows_line j = let a = alone_shows j in steps_next image' list base at has_step_lem ∙ rw (a.0, a.1)
 
-  pub step_line : joins set at w behind ≡ false → (ys : List ℕ) → 80 ≤ length ys → list_step image' list base at ys ≡ (Line at (unit set) (length l), l ++ drop (length l) ys)
-  unfolding list_step
-  step_line j ys room =
+  pub step_line : joins set at w behind ≡ false → (ys : List ℕ) → 80 ≤ length ys → list_step image' list base at ys ≡ (Ok (Line at (unit set) (length l)), l ++ drop (length l) ys)
+  step_line j ys fits =
       let a = alone_shows j in
-      rw (eq-eqb (refusal_at image' list at) 0 fine)
-      (listed_line image' (pairs list) base at ys has_step_lem l a.1 (rw a.1 at (span_whole image' (span_at image' (pairs list) at) pc at)) room ∙ rw a.0)
+      let x = span_at image' (pairs list) at in
+      let e : listed image' (pairs list) base at ys ≡ (Line at (unit set) (length l), l ++ drop (length l) ys) =
+      listed_line image' (pairs list) base at ys has_step_lem l a.1 (rw a.1 at (span_whole image' x pc at)) fits ∙ rw a.0 in
+      step_given image' list base at ys fine ∙ ap step_answer e
 
   -- where it joins one, the step is the pair, and its line is another
   pub shows_pair : joins set at w behind ≡ true → steps image' list base at ≡ record { offset = at; bytes = 4; shows = pair_line pc w behind } ∷ steps image' list base (at + 4)

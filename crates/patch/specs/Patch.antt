@@ -1,5 +1,7 @@
 -- What a patch answers, and what the image holds then, of document 02 (vi). Assumes nothing.
-use Rattle.std.specs.Prelude.{Bool, ◌&&◌, cond, false, List, ℕ, zero, suc, ◌+◌, ◌/◌, ◌%◌, ◌^◌, eqb, leb, ltb, length, set}
+use Rattle.std.specs.Prelude.{Bool, ◌&&◌, cond, false, List, ℕ, zero, suc, ◌+◌, ◌/◌, ◌%◌, ◌^◌, leb, ltb, length, set, Result, Ok, Err, ⊤}
+use Rattle.refusal.specs.declared.Refusal.{Refusal}
+use Rattle.refusal.specs.declared.Refusal.TheVariants.{NoWord}
 use Rattle.arm7tdmi.specs.Signed.{moved}
 use Rattle.arm7tdmi.specs.declared.Form.TheVariants.{Sheet}
 use Rattle.lines.specs.Answer.{Answer}
@@ -8,7 +10,7 @@ use Rattle.arm_print.specs.Print.{arm_line}
 use Rattle.thumb_print.specs.Print.{thumb_line}
 use Rattle.reading.specs.Read.{read_back}
 use Rattle.image.specs.Bytes.{half, word}
-use Rattle.image.specs.Refusal.{refusal_at, unit}
+use Rattle.image.specs.Refusal.{or_place, refusal_at, unit}
 use Rattle.image.specs.Stretches.{pairs, set_at}
 use Rattle.image.specs.declared.Set.{Set}
 use Rattle.image.specs.declared.Set.TheVariants.{Arm, Thumb}
@@ -43,18 +45,22 @@ abbrev pub stored : List ℕ → Set → ℕ → ℕ → List ℕ
 stored image s at w = with_number image at (unit s) w
 
 -- ---- the answer
--- "Refusal 8, for resuming and patching: .. or for a patch equal to the end. It follows 6 and 7": 6, 7, 8, or 0 for none
-unfoldable pub patch_refusal : List ℕ → List ℕ → ℕ → ℕ
-patch_refusal image list at = cond (eqb (refusal_at image list at) 0) (cond (leb (length image) at) 8 0) (refusal_at image list at)
+-- "Refusal 8, for resuming and patching: .. or for a patch equal to the end. It follows 6 and 7": 6, 7, 8, or none
+unfoldable pub patch_refusal : List ℕ → List ℕ → ℕ → Result ⊤ Refusal
+patch_refusal image list at = or_place (refusal_at image list at) (leb (length image) at)
 
 -- ".. and precedes 4": of a line at an address p, by the set at the place
-unfoldable pub patched_in : List ℕ → Set → ℕ → ℕ → List ℕ → ℕ × List ℕ
-patched_in image s p at l = cond (ltb (read_in s p l) (words_of s)) (0, stored image s at (read_in s p l)) (4, image)
+unfoldable pub patched_in : List ℕ → Set → ℕ → ℕ → List ℕ → Result ⊤ Refusal × List ℕ
+patched_in image s p at l = cond (ltb (read_in s p l) (words_of s)) (Ok tt, stored image s at (read_in s p l)) (Err NoWord, image)
 
--- the number, and the image then. "A refused patch writes nothing."
-unfoldable pub patched : List ℕ → List ℕ → ℕ → ℕ → List ℕ → ℕ × List ℕ
-patched image list base at l =
-    cond (eqb (patch_refusal image list at) 0) (patched_in image (set_at (pairs list) at) (moved base at) at l) (patch_refusal image list at, image)
+-- a refusal, or what is answered and held otherwise
+abbrev pub patched_unless : Result ⊤ Refusal → Result ⊤ Refusal × List ℕ → List ℕ → Result ⊤ Refusal × List ℕ
+patched_unless (Ok done) p image = p
+patched_unless (Err r) p image = (Err r, image)
+
+-- the answer, and the image then. "A refused patch writes nothing."
+unfoldable pub patched : List ℕ → List ℕ → ℕ → ℕ → List ℕ → Result ⊤ Refusal × List ℕ
+patched image list base at l = patched_unless (patch_refusal image list at) (patched_in image (set_at (pairs list) at) (moved base at) at l) image
 
 -- ---- the step there
 -- "a pair needs two patches": whether a word w that is stored at a place joins a pair with the halfword behind it, in Thumb, inside one stretch

@@ -3,3 +3,4 @@ pub mod Demand
 pub mod Pieces
 pub mod RegisterList
 pub mod Several
+pub mod Scratch

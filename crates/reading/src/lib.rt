@@ -2,3 +2,4 @@
 #![tactic(auto)]
 
 pub mod parts;
+pub mod shown;

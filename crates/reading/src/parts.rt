@@ -1,11 +1,12 @@
 // What the words of a line name and write. Each function takes the line from its word on.
 ghost use Rattle.std.specs.Prelude.{◌≡◌, ◌≤◌, ◌<◌, ◌^◌, ◌*◌, drop};
+ghost use Rattle.arm7tdmi.specs.Names.{reg_named};
 ghost use Rattle.reading.specs.Parts.{amount_field, flag, list_in};
 ghost use Rattle.text.specs.Digits.{value};
 ghost use Rattle.text.specs.Word.{word};
 
 use arm7tdmi::read_reg;
-use text::read::{first_word, next_word, read_hex};
+use text::read::{first_word, next_word, read_number};
 
 // A flag as a number.
 pub fn as_flag(b: bool) -> u64
@@ -24,6 +25,20 @@ pub fn amount_field(n: u64) -> u64
     n % 32
 }
 
+// The register that the first word names, or 16.
+pub fn register(l: &[u8]) -> u8
+    ensures { (result ≡ reg_named (word l.now)) × (result ≤ 16) }
+{
+    read_reg(first_word(l)) as u8
+}
+
+// The number that the first word writes in a base.
+pub fn number<const BASE: u32>(l: &[u8]) -> u64
+    ensures { (result ≡ value BASE (word l.now)) × (result < 2 ^ 32) }
+{
+    read_number::<BASE>(first_word(l)) as u64
+}
+
 // The number that the first word writes in hexadecimal behind `0x`.
 pub fn hexadecimal(l: &[u8]) -> u64
     ensures { (result ≡ value 16 (drop 2 (word l.now))) × (result < 2 ^ 32) }
@@ -32,7 +47,7 @@ pub fn hexadecimal(l: &[u8]) -> u64
     if w.len() < 2 {
         return 0;
     }
-    read_hex(&w[2..]) as u64
+    read_number::<16>(&w[2..]) as u64
 }
 
 // The bit of a register.

@@ -6,7 +6,7 @@ use lib.ListN.{drop, drop_of_length-le, get_or, length, length-append, length-dr
 use lib.Seq.{drop-cons, drop-drop, take_at}
 use mathlib.Core.Bool.{Bool, ◌&&◌, cond, false, true}
 use mathlib.Core.List.{List, [], ◌++◌, ◌∷◌, append_assoc, append-nil}
-use mathlib.Core.Path.{◌∙◌, ◌≡◌, ap, sym}
+use mathlib.Core.Path.{◌≡◌, ap, sym}
 use native.Mathlib.Nat.{add-suc, mod-eq_of_lt, pow-le-pow_right, pow-suc, suc-add, zero-add}
 use native.Mathlib.Numerals.{add-one}
 use native.Mathlib.Omega.{arith}
@@ -17,92 +17,110 @@ use Rattle.arm_print.proofs.Whole.{arm_whole}
 use Rattle.common.proofs.Tests.{and_left, and_right, by_test}
 use Rattle.common.proofs.Lists.{part_rest}
 use Rattle.row.specs.Row.{address_digits, answer_text, fields_of, hex_number, is_hex, is_row, word_digits, word_line}
-use Rattle.row.specs.declared.Fields.TheVariants.{Both, Nothing}
 use Rattle.row.specs.declared.Word.{Word}
 use Rattle.row.specs.declared.Word.TheVariants.{Arm, Thumb}
 use Rattle.text.specs.Digits.{dec, digit_value, value, value_from}
 use Rattle.text.specs.Text.{text}
 use Rattle.text.specs.Wrote.{Wrote}
+use Rattle.text.specs.Puts.{puts, standing}
+use Rattle.text.specs.declared.put.Writer.{Writer}
 use Rattle.text.proofs.Within.{dec_within}
 use Rattle.text.proofs.Wrote.{placed}
 use Rattle.text.specs.Word.{all}
 use Rattle.thumb_print.proofs.Lengths.{thumb_whole}
-use Rattle.lines.specs.declared.Printed.{Printed}
+use Rattle.refusal.specs.Refusal.{number}
+use Rattle.refusal.specs.declared.Refusal.{Refusal}
+use Rattle.std.proofs.Common.{Option, Result, Ok, Err, Some, None}
 
 pub answer_short : (a : Answer) → Whole a → length (answer_text a) ≤ 80
 unfolding answer_text
-answer_short (refused n) w = let d = (dec_within n).most in simp length-append (omega arith)
+answer_short (refused r) w = let d = (dec_within (number r)).most in simp length-append (omega arith)
 answer_short (line bs) w = w
 
+apart : {r : Refusal} {n : ℕ} → ◌≡◌ {A = Result ℕ Refusal} (Err r) (Ok n) → ⊥
+apart e = let z : ◌≡◌ {A = ℕ} 0 1 = cc in omega arith
+
 -- what a print with room for any line gives
-module _ (l m : List ℕ) (p : Printed) (room : 80 ≤ length l) where
+module _ (l m : List ℕ) (room : 80 ≤ length l) where
   -- a line: its length, and the buffer
-  pub shown_line : (a : Answer) → Whole a → printed a l ≡ (p, m) → p.number ≡ 0 → (length (answer_text a) ≡ p.length) × (answer_text a ++ drop p.length l ≡ m)
+  pub shown_line : (a : Answer) (n : ℕ) → Whole a → printed a l ≡ (Ok n, m) → (length (answer_text a) ≡ n) × (answer_text a ++ drop n l ≡ m)
   unfolding printed answer_text
-  shown_line (refused n) w e z =
-      let q : n ≡ p.number = ap (λ (z : Printed × List ℕ). z.0.number) e in
-      absurd (let k : n ≡ 0 = q ∙ z in omega (arith, w.0))
-  shown_line (line bs) w e z =
+  shown_line (refused r) n w e = absurd (apart (ap (λ (x : Result ℕ Refusal × List ℕ). x.0) e))
+  shown_line (line bs) n w e =
       let f : ltb (length l) (length bs) ≡ false = le-ltb (length l) (length bs) (omega arith) in
-      let g : given bs l ≡ (p, m) = rw f at e in
-      let n : length bs ≡ p.length = ap (λ (z : Printed × List ℕ). z.0.length) g in
-      (n, rw (← n) (ap (λ (z : Printed × List ℕ). z.1) g))
+      let g : given bs l ≡ (Ok n, m) = rw f at e in
+      let q : Ok (length bs) ≡ Ok n = ap (λ (x : Result ℕ Refusal × List ℕ). x.0) g in
+      let k : length bs ≡ n = cc in
+      (k, rw (← k) (ap (λ (z : Result ℕ Refusal × List ℕ). z.1) g))
 
   -- a refusal: its number, and the buffer
-  pub shown_refusal : (a : Answer) → Whole a → printed a l ≡ (p, m) → (p.number ≡ 0 → ⊥) → (text "!" ++ dec p.number ≡ answer_text a) × (l ≡ m)
+  pub shown_refusal : (a : Answer) (r : Refusal) → Whole a → printed a l ≡ (Err r, m) → (text "!" ++ dec (number r) ≡ answer_text a) × (l ≡ m)
   unfolding printed answer_text
-  shown_refusal (refused n) w e z =
-      let q : n ≡ p.number = ap (λ (z : Printed × List ℕ). z.0.number) e in
-      (rw (← q), ap (λ (z : Printed × List ℕ). z.1) e)
-  shown_refusal (line bs) w e z =
+  shown_refusal (refused n) r w e = let h : Err n ≡ Err r = ap (λ (x : Result ℕ Refusal × List ℕ). x.0) e in let q : n ≡ r = cc in (rw (← q), ap (λ (z : Result ℕ Refusal × List ℕ). z.1) e)
+  shown_refusal (line bs) r w e =
       let f : ltb (length l) (length bs) ≡ false = le-ltb (length l) (length bs) (omega arith) in
-      let g : given bs l ≡ (p, m) = rw f at e in
-      let q : 0 ≡ p.number = ap (λ (z : Printed × List ℕ). z.0.number) g in
-      absurd (z (sym q))
+      let g : given bs l ≡ (Err r, m) = rw f at e in
+      absurd (apart (sym (ap (λ (x : Result ℕ Refusal × List ℕ). x.0) g)))
 
   -- the first bytes of the buffer
-  pub shown_take : (a : Answer) → Whole a → printed a l ≡ (p, m) → p.number ≡ 0 → take p.length m ≡ answer_text a
-  shown_take a w e z =
-      let s = shown_line a w e z in
-      rw (← s.1) (take_at (answer_text a) (drop p.length l) p.length s.0)
+  pub shown_take : (a : Answer) (n : ℕ) → Whole a → printed a l ≡ (Ok n, m) → take n m ≡ answer_text a
+  shown_take a n w e =
+      let s = shown_line a n w e in
+      rw (← s.1) (take_at (answer_text a) (drop n l) n s.0)
+
+  -- and there are so many
+  pub shown_bound : (a : Answer) (n : ℕ) → Whole a → printed a l ≡ (Ok n, m) → n ≤ length m
+  shown_bound a n w e =
+      let s = shown_line a n w e in
+      rw (← s.1) (simp length-append (omega arith))
+
+-- a writer that was written to
+pub as_written : (w : Writer) (bs l : List ℕ) (r : ℕ) → Wrote w.bytes.now w.at bs l r → standing w (record { held = l; next = r }) ≡ puts w bs
+unfolding puts
+as_written w bs l r h = ap (standing w) h.after
 
 -- a print into the part of a buffer from a place on
-module _ (l m : List ℕ) (at : ℕ) (p : Printed) (a : Answer) (room : at + 80 ≤ length l) (w : Whole a) (e : printed a (take (length l - at) (drop at l)) ≡ (p, m)) where
-  in_part : printed a (drop at l) ≡ (p, m)
-  in_part = rw part_rest at e
-
+module _ (l m : List ℕ) (at : ℕ) (a : Answer) (room : at + 80 ≤ length l) (w : Whole a) where
   part_room : 80 ≤ length (drop at l)
   part_room = simp length-drop (omega arith)
 
   nothing_behind : drop (length l - at) (drop at l) ≡ []
   nothing_behind = drop_of_length-le (drop at l) {i = length l - at} (simp length-drop (omega arith))
 
-  pub part_length : p.number ≡ 0 → p.length ≤ 80
-  part_length z =
-      let s = shown_line (drop at l) m p part_room a w in_part z in
-      let short = answer_short a w in
-      omega arith
+  module _ (n : ℕ) (e : printed a (take (length l - at) (drop at l)) ≡ (Ok n, m)) where
+    in_part : printed a (drop at l) ≡ (Ok n, m)
+    in_part = rw part_rest at e
 
-  pub straight : p.number ≡ 0 → Wrote l at (answer_text a) (take at l ++ (m ++ drop (length l - at) (drop at l))) (at + p.length)
-  straight z =
-      let t = answer_text a in
-      let s = shown_line (drop at l) m p part_room a w in_part z in
-      let short = answer_short a w in
-      let b : drop p.length (drop at l) ≡ drop (at + p.length) l = drop-drop p.length at l in
-      rw (nothing_behind, append-nil, ← s.1, b, ← s.0, ← append_assoc) (placed l at t (omega arith))
+    pub part_length : n ≤ 80
+    part_length =
+        let s = shown_line (drop at l) m part_room a n w in_part in
+        let short = answer_short a w in
+        omega arith
 
-  pub part_kept : (p.number ≡ 0 → ⊥) → take at l ++ (m ++ drop (length l - at) (drop at l)) ≡ l
-  part_kept z =
-      let s = shown_refusal (drop at l) m p part_room a w in_part z in
-      rw (nothing_behind, append-nil, ← s.1) (take-append-drop at l)
+    pub straight : Wrote l at (answer_text a) (take at l ++ (m ++ drop (length l - at) (drop at l))) (at + n)
+    straight =
+        let t = answer_text a in
+        let s = shown_line (drop at l) m part_room a n w in_part in
+        let short = answer_short a w in
+        let b : drop n (drop at l) ≡ drop (at + n) l = drop-drop n at l in
+        rw (nothing_behind, append-nil, ← s.1, b, ← s.0, ← append_assoc) (placed l at t (omega arith))
 
-  pub part_refusal : (p.number ≡ 0 → ⊥) → text "!" ++ dec p.number ≡ answer_text a
-  part_refusal z = (shown_refusal (drop at l) m p part_room a w in_part z).0
+  module _ (r : Refusal) (e : printed a (take (length l - at) (drop at l)) ≡ (Err r, m)) where
+    part_refused : printed a (drop at l) ≡ (Err r, m)
+    part_refused = rw part_rest at e
+
+    pub part_kept : take at l ++ (m ++ drop (length l - at) (drop at l)) ≡ l
+    part_kept =
+        let s = shown_refusal (drop at l) m part_room a r w part_refused in
+        rw (nothing_behind, append-nil, ← s.1) (take-append-drop at l)
+
+    pub part_refusal : text "!" ++ dec (number r) ≡ answer_text a
+    part_refusal = (shown_refusal (drop at l) m part_room a r w part_refused).0
 
 -- ---- digits of a row
 -- the number that digits write behind a number v
-abbrev pub number_from : ℕ → List ℕ → ℕ
-number_from v s = cond (is_hex s) (value_from 16 v s) (2 ^ 32)
+abbrev pub number_from : ℕ → List ℕ → Option ℕ
+number_from v s = cond (is_hex s) (Some (value_from 16 v s)) None
 
 -- the steps of a loop over the digits
 module _ (v : ℕ) (s : List ℕ) (i : ℕ) where
@@ -110,27 +128,22 @@ module _ (v : ℕ) (s : List ℕ) (i : ℕ) where
   unfolding is_hex value_from
   number_step h d = rw (drop-cons s i 0 h, lt-ltb (digit_value (get_or s i 0)) 16 d, add-one)
 
-  pub number_break : i < length s → 16 ≤ digit_value (get_or s i 0) → number_from v (drop i s) ≡ 2 ^ 32
+  pub number_break : i < length s → 16 ≤ digit_value (get_or s i 0) → number_from v (drop i s) ≡ None
   unfolding is_hex
   number_break h d = rw (drop-cons s i 0 h, le-ltb (digit_value (get_or s i 0)) 16 d)
 
-  pub number_out : length s ≤ i → number_from v (drop i s) ≡ v
+  pub number_out : length s ≤ i → number_from v (drop i s) ≡ Some v
   unfolding is_hex value_from
   number_out h = rw (drop_of_length-le s h)
 
--- it is below 2 ^ 32 where they are digits, and then their value
-value_fits : (v : ℕ) (l : List ℕ) → v < 2 ^ 32 → value_from 16 v l < 2 ^ 32
-unfolding value_from
-value_fits v [] h = h
-value_fits v (x ∷ l) h = value_fits ((v * 16 + digit_value x) % 2 ^ 32) l (omega arith)
-
-pub number_hex : (l : List ℕ) → hex_number l < 2 ^ 32 → (is_hex l ≡ true) × (hex_number l ≡ value 16 l)
+-- there is one just where they are digits
+pub number_hex : (l : List ℕ) (n : ℕ) → Some n ≡ hex_number l → (is_hex l ≡ true) × (value 16 l ≡ n)
 unfolding hex_number
-number_hex l h = by_test (is_hex l) (λ e. (e, rw e)) (λ e. absurd (let z : 2 ^ 32 < 2 ^ 32 = rw e at h in omega arith))
+number_hex l n h = by_test (is_hex l) (λ e. let q : Some n ≡ Some (value 16 l) = rw e at h in (e, cc)) (λ e. let q : Some n ≡ None = rw e at h in cc)
 
-pub number_none : (l : List ℕ) → 2 ^ 32 ≤ hex_number l → is_hex l ≡ false
+pub number_none : (l : List ℕ) → None ≡ hex_number l → is_hex l ≡ false
 unfolding hex_number
-number_none l h = by_test (is_hex l) (λ e. absurd (let z : 2 ^ 32 ≤ value 16 l = rw e at h in let f = value_fits 0 l (omega arith) in omega arith)) (λ e. e)
+number_none l h = by_test (is_hex l) (λ e. let q : None ≡ Some (value 16 l) = rw e at h in cc) (λ e. e)
 
 abbrev hex_digit : ℕ → Bool
 hex_digit x = ltb (digit_value x) 16
@@ -191,18 +204,18 @@ word_whole address (Thumb w) = thumb_whole Bench address w
 
 -- what the fields of a row say of it
 module _ (letter n : ℕ) (l : List ℕ) where
-  pub fields_both : (a w : ℕ) → Both a w ≡ fields_of letter n l → (is_row letter n l ≡ true) × (value 16 (address_digits l) ≡ a) × (value 16 (word_digits n l) ≡ w)
+  pub fields_both : (a w : ℕ) → Some (a, w) ≡ fields_of letter n l → (is_row letter n l ≡ true) × (value 16 (address_digits l) ≡ a) × (value 16 (word_digits n l) ≡ w)
   unfolding fields_of
   fields_both a w e =
       let x = value 16 (address_digits l) in
       let y = value 16 (word_digits n l) in
       by_test (is_row letter n l)
-      (λ t. let q : Both a w ≡ Both x y = rw t at e in (t, cc, cc))
-      (λ t. let q : Both a w ≡ Nothing = rw t at e in absurd (let z : ◌≡◌ {A = ℕ} 0 1 = cc in omega arith))
+      (λ t. let q : Some (a, w) ≡ Some (x, y) = rw t at e in let p : ◌≡◌ {A = ℕ × ℕ} (a, w) (x, y) = cc in (t, sym (ap (λ (z : ℕ × ℕ). z.0) p), sym (ap (λ (z : ℕ × ℕ). z.1) p)))
+      (λ t. let q : Some (a, w) ≡ None = rw t at e in cc)
 
-  pub fields_none : Nothing ≡ fields_of letter n l → is_row letter n l ≡ false
+  pub fields_none : None ≡ fields_of letter n l → is_row letter n l ≡ false
   unfolding fields_of
   fields_none e =
       by_test (is_row letter n l)
-      (λ t. let q : Nothing ≡ Both (value 16 (address_digits l)) (value 16 (word_digits n l)) = rw t at e in absurd (let z : ◌≡◌ {A = ℕ} 0 1 = cc in omega arith))
+      (λ t. let q : None ≡ Some (value 16 (address_digits l), value 16 (word_digits n l)) = rw t at e in cc)
       (λ t. t)

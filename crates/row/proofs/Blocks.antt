@@ -1,9 +1,9 @@
 -- The rows of an input by its line ends; that it may be cut anywhere, and that the start of a row is enough to hold; how long the answers are. Assumes nothing.
-use Prim.Native.Nat.{◌*◌, ◌+◌, ◌<◌, ◌≤◌, suc, ℕ}
+use Prim.Native.Nat.{◌*◌, ◌+◌, ◌<◌, ◌≤◌, suc, zero, ℕ}
 use borrow.Author.Tests.{leb-false, leb-true, ne_eqb}
 use lib.Dec.{eqb, leb}
 use lib.ListN.{drop, length, length-append, length-take, take}
-use lib.Seq.{append_snoc, drop-drop, take_all, take-append-le}
+use lib.Seq.{append_snoc, take_all, take-append-le}
 use mathlib.Core.List.{List, [], ◌++◌, ◌∷◌, append_assoc, append-nil, flatten}
 use mathlib.Core.Path.{◌≡◌, ◌∙◌, ap, refl, sym}
 use native.Mathlib.Numerals.{add-one}
@@ -11,84 +11,84 @@ use native.Mathlib.Omega.{arith}
 use Rattle.arm7tdmi.specs.declared.Form.TheVariants.{Bench}
 use Rattle.arm_print.specs.Print.{arm_line}
 use Rattle.common.proofs.Tests.{by_test}
-use Rattle.common.specs.Lists.{find, first}
 use Rattle.arm_print.proofs.Whole.{arm_whole}
 use Rattle.thumb_print.proofs.Lengths.{thumb_whole}
 use Rattle.row.proofs.Answers.{answer_short, row_length}
-use Rattle.row.specs.Block.{Answered, all_answers, answer_line, answers, at_start, blockwise, held_of, last_answer, unfinished}
+use Rattle.row.specs.Block.{Ended, NoEnd, all_answers, answer_line, answers, at_start, blockwise, held_of, is_end, last_answer, unfinished}
 use Rattle.row.specs.Row.{address_digits, is_row, row_answer, word_digits}
-use Rattle.row.specs.declared.block.Left.{Left}
 use Rattle.text.specs.Digits.{value}
 use Rattle.text.specs.Text.{text}
 use Rattle.text.specs.Wrote.{Wrote}
-use Rattle.text.proofs.Wrote.{◌⨾◌, lies, nothing, same_as}
+use Rattle.text.proofs.Wrote.{behind, lies}
+use Rattle.std.proofs.lemmas.List.Quantifiers.{position-Some}
+use Rattle.text.proofs.Puts.{puts_append}
+use Rattle.text.specs.Puts.{puts}
+use Rattle.text.specs.declared.put.Writer.{Writer}
+use Rattle.std.specs.List.{list_any, position, position_or_len}
+use Rattle.std.proofs.Common.{Some, None, false, true≢false, ◌-◌, ltb, ltb-false, eqb-true, get_or, drop-cons, take-append-drop}
 use Rattle.thumb_print.specs.Print.{thumb_line}
 
 -- ---- the first row of some bytes of input: it ends, or all of them are of it
-pub ends : (b l : List ℕ) → find 10 l < length l → answers b l ≡ answer_line (b ++ take (find 10 l) l) ++ answers [] (drop (suc (find 10 l)) l)
-unfolding answers first
-ends b [] h = absurd (let z : 0 < 0 = h in omega arith)
-ends b (x ∷ l) h =
-    by_test (eqb x 10) (λ e. rw (e, append-nil))
-    (λ e. let s : suc (find 10 l) < suc (length l) = rw e at h in
-    rw e (ends (b ++ (x ∷ [])) l (omega arith) ∙ rw (append_snoc b x (take (find 10 l) l))))
+pub ends : (b row rest : List ℕ) → list_any is_end row ≡ false → answers b (row ++ (10 ∷ rest)) ≡ answer_line (b ++ row) ++ answers [] rest
+unfolding answers
+ends b [] rest h = rw append-nil
+ends b (x ∷ row) rest h =
+    by_test (eqb x 10) (λ e. absurd (true≢false (rw e at h)))
+    (λ e. let t : list_any is_end row ≡ false = rw e at h in rw (e, ends (b ++ (x ∷ [])) row rest t, append_snoc b x row))
 
-pub ends_left : (b l : List ℕ) → find 10 l < length l → unfinished b l ≡ unfinished [] (drop (suc (find 10 l)) l)
-unfolding unfinished first
-ends_left b [] h = absurd (let z : 0 < 0 = h in omega arith)
-ends_left b (x ∷ l) h =
-    by_test (eqb x 10) (λ e. rw e)
-    (λ e. let s : suc (find 10 l) < suc (length l) = rw e at h in
-    rw e (ends_left (b ++ (x ∷ [])) l (omega arith)))
+pub ends_left : (b row rest : List ℕ) → list_any is_end row ≡ false → unfinished b (row ++ (10 ∷ rest)) ≡ unfinished [] rest
+unfolding unfinished
+ends_left b [] rest h = refl
+ends_left b (x ∷ row) rest h =
+    by_test (eqb x 10) (λ e. absurd (true≢false (rw e at h)))
+    (λ e. let t : list_any is_end row ≡ false = rw e at h in rw e (ends_left (b ++ (x ∷ [])) row rest t))
 
-pub no_end : (b l : List ℕ) → length l ≤ find 10 l → answers b l ≡ []
-unfolding answers first
+pub no_end : (b l : List ℕ) → NoEnd l → answers b l ≡ []
+unfolding answers
 no_end b [] h = refl
 no_end b (x ∷ l) h =
-    by_test (eqb x 10) (λ e. absurd (let s : suc (length l) ≤ 0 = rw e at h in omega arith))
-    (λ e. let s : suc (length l) ≤ suc (find 10 l) = rw e at h in
-    rw e (no_end (b ++ (x ∷ [])) l (omega arith)))
+    by_test (eqb x 10) (λ e. absurd (true≢false (rw e at h.none)))
+    (λ e. let t : list_any is_end l ≡ false = rw e at h.none in rw e (no_end (b ++ (x ∷ [])) l (record { none = t })))
 
-pub no_end_left : (b l : List ℕ) → length l ≤ find 10 l → unfinished b l ≡ b ++ l
-unfolding unfinished first
+pub no_end_left : (b l : List ℕ) → NoEnd l → unfinished b l ≡ b ++ l
+unfolding unfinished
 no_end_left b [] h = rw append-nil
 no_end_left b (x ∷ l) h =
+    by_test (eqb x 10) (λ e. absurd (true≢false (rw e at h.none)))
+    (λ e. let t : list_any is_end l ≡ false = rw e at h.none in rw e (no_end_left (b ++ (x ∷ [])) l (record { none = t }) ∙ append_snoc b x l))
+
+-- where it ends
+none_before : (l : List ℕ) (e : ℕ) → ((k : ℕ) → k < e → is_end (get_or l k 0) ≡ false) → list_any is_end (take e l) ≡ false
+none_before l zero h = refl
+none_before [] (suc e) h = refl
+none_before (x ∷ l) (suc e) h = rw (h 0 (omega arith)) (none_before l e (λ k g. h (suc k) (omega arith)))
+
+none_at_all : (l : List ℕ) → length l ≤ position_or_len is_end l → list_any is_end l ≡ false
+none_at_all [] h = refl
+none_at_all (x ∷ l) h =
     by_test (eqb x 10) (λ e. absurd (let s : suc (length l) ≤ 0 = rw e at h in omega arith))
-    (λ e. let s : suc (length l) ≤ suc (find 10 l) = rw e at h in
-    rw e (no_end_left (b ++ (x ∷ [])) l (omega arith) ∙ append_snoc b x l))
+    (λ e. let s : suc (length l) ≤ 1 + position_or_len is_end l = rw e at h in rw e (none_at_all l (omega arith)))
 
--- ---- a walk over the rows of some bytes of input: the rows before a place are answered
-pub record Reached (input out : List ℕ) (at from : ℕ) (out' : List ℕ) (o : ℕ) : Type 0 where
-  pub done : List ℕ
-  pub wrote : Wrote out at done out' o
-  pub answered : answers [] input ≡ done ++ answers [] (drop from input)
-  pub left : unfinished [] input ≡ unfinished [] (drop from input)
+pub ended : (l : List ℕ) (e : ℕ) → position is_end l ≡ Some e → (e < length l) × Ended l (take e l) (drop (e + 1) l)
+ended l e h =
+    let p = position-Some is_end l e 0 h in
+    let d : drop e l ≡ get_or l e 0 ∷ drop (suc e) l = drop-cons l e 0 p.0 in
+    let x : get_or l e 0 ≡ 10 = eqb-true (get_or l e 0) 10 p.1 in
+    (p.0, record { parts = rw (add-one, ← x, ← d) (sym (take-append-drop e l)); none = none_before l e p.2 })
 
-pub reached_none : (input out : List ℕ) (at : ℕ) → Reached input out at 0 out at
-reached_none input out at = record { done = []; wrote = nothing; answered = refl; left = refl }
+pub not_ended : (l : List ℕ) → position is_end l ≡ None → NoEnd l
+not_ended l h =
+    by_test (ltb (position_or_len is_end l) (length l))
+    (λ e. let q : Some (position_or_len is_end l) ≡ None = rw e at h in cc)
+    (λ e. record { none = none_at_all l (ltb-false (position_or_len is_end l) (length l) e) })
 
-module _ {input out : List ℕ} {at from : ℕ} {out' : List ℕ} {o : ℕ} (r : Reached input out at from out' o) where
-  pub reached_row : {l : List ℕ} {k : ℕ} → find 10 (drop from input) < length (drop from input) → Wrote out' o (answer_line (take (find 10 (drop from input)) (drop from input))) l k
-      → Reached input out at (from + (find 10 (drop from input) + 1)) l k
-  reached_row h w =
-      let t = drop from input in
-      let e = find 10 t in
-      let b : drop (suc e) t ≡ drop (from + (e + 1)) input = rw (add-one e) (drop-drop (suc e) from input) in
-      record {
-        done = r.done ++ answer_line (take e t);
-        wrote = r.wrote ⨾ w;
-        answered = rw (r.answered, ends [] t h, b) (sym (append_assoc r.done (answer_line (take e t)) (answers [] (drop (from + (e + 1)) input))));
-        left = rw (r.left, ends_left [] t h, b);
-      }
+-- ---- a walk over the rows of some bytes of input: what is still to be written
+pub rows_on : (w v u : Writer) (input rest row next : List ℕ) → puts w (answers [] input) ≡ puts v (answers [] rest) → Ended rest row next → u ≡ puts v (answer_line row)
+    → puts w (answers [] input) ≡ puts u (answers [] next)
+rows_on w v u input rest row next h e g = rw (h, e.parts, ends [] row next e.none, puts_append, ← g)
 
-  pub reached_end : {space : List ℕ} {n : ℕ} → length (drop from input) ≤ find 10 (drop from input) → take n space ≡ held_of (drop from input)
-      → Answered [] input out at space out' (record { held = n; at = o })
-  reached_end h k =
-      let t = drop from input in
-      record {
-        wrote = same_as r.wrote (rw (r.answered, no_end [] t h, append-nil));
-        keeps = rw (k, r.left, no_end_left [] t h);
-      }
+pub rows_left : (rest row next : List ℕ) → Ended rest row next → unfinished [] rest ≡ unfinished [] next
+rows_left rest row next e = rw (e.parts, ends_left [] row next e.none)
 
 -- ---- where the input is cut
 cut : (b x y : List ℕ) → answers b (x ++ y) ≡ answers b x ++ answers (unfinished b x) y
@@ -120,20 +120,20 @@ by_length l short long =
 pub held_row : (l : List ℕ) → row_answer (held_of l) ≡ row_answer l
 held_row l = by_length l (λ e. rw e) (λ g h. long_row (held_of l) g ∙ sym (long_row l h))
 
--- ---- a block: no row ends in it, or the first that does is put together from what was held and its start
-pub block_held : {begun block out space : List ℕ} {n : ℕ} → length block ≤ find 10 block → take n space ≡ held_of (begun ++ block)
-    → Answered begun block out 0 space out (record { held = n; at = 0 })
-block_held {begun} {block} h k = record { wrote = same_as nothing (sym (no_end begun block h)); keeps = rw (k, no_end_left begun block h) }
+-- ---- what is held
+pub same_buffer : (w v : Writer) (bs : List ℕ) → v ≡ puts w bs → w.bytes.ghost_name ≡ v.bytes.ghost_name
+unfolding puts
+same_buffer w v bs e = rw e
 
-pub block_rows : {begun block out space first out₁ out₂ : List ℕ} {o : ℕ} {r : Left} → find 10 block < length block → first ≡ held_of (begun ++ take (find 10 block) block)
-    → Wrote out 0 (answer_line first) out₁ o → Answered [] (drop (suc (find 10 block)) block) out₁ o space out₂ r → Answered begun block out 0 space out₂ r
-block_rows {begun} {block} h e w a =
-    let row = begun ++ take (find 10 block) block in
-    let same : answer_line (held_of row) ≡ answer_line row = ap (λ (x : List ℕ). x ++ (10 ∷ [])) (held_row row) in
-    record {
-      wrote = same_as (w ⨾ a.wrote) (rw (e, same) (sym (ends begun block h)));
-      keeps = rw (a.keeps, ends_left begun block h);
-    }
+pub within : {l : List ℕ} {at : ℕ} {bs l' : List ℕ} {r : ℕ} → Wrote l at bs l' r → at ≤ length l → r ≤ length l
+within {l} {at} {bs} w h = let b = (behind w).place in let n = length-take (length l - at) bs in omega arith
+
+-- ---- a block: the first row that ends in it is put together from what was held and its start
+pub first_put : (w : Writer) (begun input row next : List ℕ) → Ended input row next → puts w (answers begun input) ≡ puts (puts w (answer_line (held_of (begun ++ row)))) (answers [] next)
+first_put w begun input row next e = rw (e.parts, ends begun row next e.none, held_row (begun ++ row), puts_append w (answer_line (begun ++ row)) (answers [] next))
+
+pub first_left : (begun input row next : List ℕ) → Ended input row next → unfinished begun input ≡ unfinished [] next
+first_left begun input row next e = rw (e.parts, ends_left begun row next e.none)
 
 long_answers : (b c l : List ℕ) → 20 ≤ length b → 20 ≤ length c → answers b l ≡ answers c l
 unfolding answers
@@ -194,9 +194,9 @@ answers_room b (x ∷ l) =
 stood : {bs out out' : List ℕ} {r : ℕ} → length bs ≤ length out → Wrote out 0 bs out' r → (r, out') ≡ at_start bs out
 stood h w = let k = lies w h in rw (k.0, k.1)
 
-pub block_answered : {begun input out space out' : List ℕ} {r : Left} → 6 * (length begun + length input) ≤ length out → Answered begun input out 0 space out' r
-    → ((r.at, out') ≡ at_start (answers begun input) out) × (take r.held space ≡ held_of (unfinished begun input))
-block_answered {begun} {input} h a = let n = answers_room begun input in (stood (omega arith) a.wrote, a.keeps)
+pub block_answered : (begun input : List ℕ) {out out' : List ℕ} {r : ℕ} → length begun ≤ 20 → length input ≤ 65536 → length out ≡ 393336 → Wrote out 0 (answers begun input) out' r
+    → (r, out') ≡ at_start (answers begun input) out
+block_answered begun input h k o w = let n = answers_room begun input in stood (omega arith) w
 
 -- the answer for a last row stands there
 pub last_some : (l : List ℕ) {out out' : List ℕ} {r : ℕ} → (length l ≡ 0 → ⊥) → 6 * (length l + 1) ≤ length out → Wrote out 0 (answer_line l) out' r → (r, out') ≡ at_start (last_answer l) out

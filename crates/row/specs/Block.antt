@@ -1,8 +1,7 @@
 -- The row program's input as rows, and in blocks: where it is cut changes no answer. Assumes nothing.
-use Rattle.std.specs.Prelude.{◌≡◌, cond, List, [], ◌∷◌, ◌++◌, ℕ, eqb, drop, length, take}
-use Rattle.text.specs.Wrote.{Wrote}
+use Rattle.std.specs.Prelude.{Bool, false, ◌≡◌, cond, List, [], ◌∷◌, ◌++◌, ℕ, eqb, drop, length, take}
+use Rattle.std.specs.List.{list_any}
 use Rattle.row.specs.Row.{row_answer}
-use Rattle.row.specs.declared.block.Left.{Left}
 
 -- "each with a line end": the answer for a row and byte 10
 abbrev pub answer_line : List ℕ → List ℕ
@@ -41,8 +40,13 @@ blockwise begun [] = last_answer begun
 blockwise begun (b ∷ bs) = answers begun b ++ blockwise (held_of (unfinished begun b)) bs
 
 -- ---- for the contracts of inner functions
--- Some bytes of input were answered from the place at of an output that held out, where `begun` are the bytes before them of a row: what is written then,
--- as far as there is room, and what is held.
-pub record Answered (begun input out : List ℕ) (at : ℕ) (space' out' : List ℕ) (r : Left) : Type 0 where
-  pub wrote : Wrote out at (answers begun input) out' r.at
-  pub keeps : take r.held space' ≡ held_of (unfinished begun input)
+-- a byte that ends a row; some bytes without one; and those of a row, its end, and what stands behind it
+abbrev pub is_end : ℕ → Bool
+is_end x = eqb x 10
+
+pub record NoEnd (l : List ℕ) : Type 0 where
+  pub none : list_any is_end l ≡ false
+
+pub record Ended (l row rest : List ℕ) : Type 0 where
+  pub parts : l ≡ row ++ (10 ∷ rest)
+  pub none : list_any is_end row ≡ false

@@ -1,20 +1,19 @@
 -- What the row program answers for a row. Assumes nothing.
-use Rattle.std.specs.Prelude.{Bool, cond, ◌&&◌, List, ◌++◌, ℕ, ◌+◌, ◌^◌, eqb, ltb, length, take, drop, get_or}
+use Rattle.std.specs.Prelude.{Bool, cond, ◌&&◌, List, ◌++◌, ℕ, ◌+◌, eqb, ltb, length, take, drop, get_or, Option, Some, None}
 use Rattle.text.specs.Text.{text}
 use Rattle.text.specs.Digits.{dec, digit_value, value}
 use Rattle.text.specs.Word.{all}
+use Rattle.refusal.specs.Refusal.{number}
 use Rattle.lines.specs.Answer.{Answer, refused, line}
 use Rattle.arm7tdmi.specs.declared.Form.TheVariants.{Bench}
 use Rattle.arm_print.specs.Print.{arm_line}
 use Rattle.thumb_print.specs.Print.{thumb_line}
-use Rattle.row.specs.declared.Fields.{Fields}
-use Rattle.row.specs.declared.Fields.TheVariants.{Both, Nothing}
 use Rattle.row.specs.declared.Word.{Word}
 use Rattle.row.specs.declared.Word.TheVariants.{Arm, Thumb}
 
 -- "the bench line, or `!` and the refusal number"
 unfoldable pub answer_text : Answer → List ℕ
-answer_text (refused n) = text "!" ++ dec n
+answer_text (refused r) = text "!" ++ dec (number r)
 answer_text (line bs) = bs
 
 -- lowercase hexadecimal digits
@@ -39,13 +38,13 @@ row_answer l =
     (cond (is_row 116 4 l) (answer_text (thumb_line Bench (value 16 (address_digits l)) (value 16 (word_digits 4 l)))) (text "!0"))
 
 -- ---- for the contracts of inner functions
--- the number that digits write, and one that no digits write where a byte is none
-unfoldable pub hex_number : List ℕ → ℕ
-hex_number l = cond (is_hex l) (value 16 l) (2 ^ 32)
+-- the number that digits write, and none where a byte is no digit
+unfoldable pub hex_number : List ℕ → Option ℕ
+hex_number l = cond (is_hex l) (Some (value 16 l)) None
 
 -- the address and the word of a row
-unfoldable pub fields_of : ℕ → ℕ → List ℕ → Fields
-fields_of letter n l = cond (is_row letter n l) (Both (value 16 (address_digits l)) (value 16 (word_digits n l))) Nothing
+unfoldable pub fields_of : ℕ → ℕ → List ℕ → Option (ℕ × ℕ)
+fields_of letter n l = cond (is_row letter n l) (Some (value 16 (address_digits l), value 16 (word_digits n l))) None
 
 -- what is printed for a word of either set
 unfoldable pub word_line : ℕ → Word → Answer

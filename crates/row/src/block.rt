@@ -1,89 +1,151 @@
 // A block of the row program's input: the rows that end in it are answered, and the start of the row that does not is held.
-ghost use Rattle.std.specs.Prelude.{[], ◌≡◌, drop, length, take};
-ghost use Rattle.text.specs.Wrote.{Wrote};
-ghost use Rattle.row.specs.Block.{Answered, answer_line, answers, at_start, held_of, last_answer, unfinished};
+ghost use Rattle.std.specs.Prelude.{[], ◌++◌, ◌≡◌, ◌≤◌, List, ℕ, MatchOption, length, position, take};
+ghost use Rattle.text.specs.Puts.{puts};
+ghost use Rattle.row.specs.Block.{Ended, NoEnd, answer_line, answers, at_start, held_of, is_end, last_answer, unfinished};
 
 use crate::answer_row;
-use text::put::{part, put_byte, put_text};
-use text::read::index_of;
+use std::marker::Model;
+use text::put::Writer;
 
-// How many bytes are held of a row between two blocks, how many a block has, and how many its answers have at most.
+// How many bytes are held of a row between two blocks, how many a block has at most, and how many its answers have at most.
 pub const HELD: usize = 20;
 
 pub const BLOCK: usize = 65536;
 
 pub const ROOM: usize = 6 * (HELD + BLOCK);
 
-// What a block leaves: how many bytes of a row are held, and the place behind the answers.
-#[derive(Clone, Copy)]
-pub struct Left {
-    pub held: usize,
-    pub at: usize,
+// The bytes that are held of a row that a block cut. There is no heap, so they stand in an array, with their number; clauses see them as a list.
+#[derive(Drop)]
+pub struct Begun {
+    bytes: [u8; HELD],
+    length: usize,
 }
 
-// The answer for the row of n bytes from a place of the input on, and a line end.
-fn answer_line(input: &[u8], from: usize, n: usize, out: &mut [u8], at: usize) -> usize
-    ensures { Wrote out.old at (answer_line (take n (drop from input.now))) out.new result }
+impl Model for Begun {
+    ghost Value = { List ℕ };
+
+    ghost view = { λ b. take b.length b.bytes };
+
+    ghost invariant = { λ b. b.length ≤ 20 };
+}
+
+impl Begun {
+    // No row has begun.
+    pub fn new() -> Begun
+        ensures { result ≡ [] }
+    {
+        Begun {
+            bytes: [0; HELD],
+            length: 0,
+        }
+    }
+
+    // The bytes.
+    fn row(&self) -> &[u8]
+        ensures bytes { result.now ≡ self.now }
+        ensures few { length self.now ≤ HELD }
+    {
+        &self.bytes[..self.length]
+    }
+
+    // The row goes on.
+    fn add(&mut self, s: &[u8])
+        ensures held { self.new ≡ held_of (self.old ++ s.now) }
+        ensures few { length self.old ≤ HELD }
+    {
+        let mut out = Writer {
+            bytes: &mut self.bytes,
+            at: self.length,
+        };
+        out.put_text(s);
+        self.length = out.at;
+    }
+
+    // Another row begins.
+    fn hold(&mut self, s: &[u8])
+        ensures { self.new ≡ held_of s.now }
+    {
+        self.length = 0;
+        self.add(s);
+    }
+}
+
+// The answer for a row, and a line end.
+fn answer_line(row: &[u8], out: &mut Writer<'_>)
+    ensures { out.new ≡ puts out.old (answer_line row.now) }
 {
-    let at = answer_row(part(input, from, n), out, at);
-    put_byte(out, at, b'\n')
+    answer_row(row, out);
+    out.put_byte(b'\n');
+}
+
+// Where the first line end stands.
+fn line_end(s: &[u8]) -> Option<usize>
+    ensures { result ≡ position is_end s.now }
+{
+    s.iter().position(|x| *x == b'\n')
+}
+
+// The first row that ends in some bytes of input, and what stands behind its line end.
+#[tactic(auto, using(crate::proofs::Blocks::not_ended))]
+fn first_row(s: &[u8]) -> Option<(&[u8], &[u8])>
+    ensures { MatchOption result (NoEnd s.now) (λ p. Ended s.now p.0.now p.1.now) }
+{
+    let e = line_end(s)?;
+    Some((&s[..e], &s[e + 1..]))
 }
 
 // The rows of some bytes of input, the first of which begins with them: each is answered where it lies.
-fn answer_rows(space: &mut [u8; HELD], input: &[u8], out: &mut [u8], at: usize) -> Left
-    ensures { Answered [] input.now out.old at space.new out.new result }
+#[tactic(auto, using(crate::proofs::Blocks::rows_on, crate::proofs::Blocks::rows_left, crate::proofs::Blocks::no_end, crate::proofs::Blocks::no_end_left, text::proofs::Puts::puts_nil))]
+fn answer_rows(begun: &mut Begun, input: &[u8], out: &mut Writer<'_>)
+    ensures wrote { out.new ≡ puts out.old (answers [] input.now) }
+    ensures keeps { begun.new ≡ held_of (unfinished [] input.now) }
 {
-    let mut o = at;
-    let mut from = 0;
-    while from < input.len() {
-        let rest = &input[from..];
-        let e = index_of(rest, b'\n');
-        if e == rest.len() {
-            let n = put_text(space, 0, rest);
-            return Left { held: n, at: o };
+    let mut rest = input;
+    while let Some((row, next)) = first_row(rest) {
+        answer_line(row, out);
+        rest = next;
+    }
+    begun.hold(rest);
+}
+
+// The rows that end in some bytes of input. The first may have begun before them, so it is put together from what is held.
+#[tactic(auto, using(crate::proofs::Blocks::first_put, crate::proofs::Blocks::first_left, crate::proofs::Blocks::no_end, crate::proofs::Blocks::no_end_left, text::proofs::Puts::puts_nil))]
+fn answer_input(begun: &mut Begun, input: &[u8], out: &mut Writer<'_>)
+    ensures wrote { out.new ≡ puts out.old (answers begun.old input.now) }
+    ensures keeps { begun.new ≡ held_of (unfinished begun.old input.now) }
+    ensures few { length begun.old ≤ HELD }
+{
+    match first_row(input) {
+        None => begun.add(input),
+        Some((end, next)) => {
+            begun.add(end);
+            answer_line(begun.row(), out);
+            answer_rows(begun, next, out);
         }
-        o = answer_line(input, from, e, out, o);
-        from += e + 1;
     }
-    Left { held: 0, at: o }
 }
 
-// The rows that end in some bytes of input. The first may have begun before them, so it is put together in the space.
-fn answer_input(space: &mut [u8; HELD], held: usize, input: &[u8], out: &mut [u8]) -> Left
-    ensures answered { Answered (take held space.old) input.now out.old 0 space.new out.new result }
-    ensures space_len { length space.old ≡ 20 }
+// The rows that end in a block: their answers stand at the output's start, so many bytes, and the row that does not end is held.
+pub fn answer_block(begun: &mut Begun, block: &[u8], out: &mut [u8; ROOM]) -> usize
+    ensures out_after { length block.now ≤ BLOCK → (result, out.new) ≡ at_start (answers begun.old block.now) out.old }
+    ensures room { result ≤ ROOM }
+    ensures begun_after { begun.new ≡ held_of (unfinished begun.old block.now) }
 {
-    let e = index_of(input, b'\n');
-    let n = put_text(space, held, &input[..e]);
-    if e == input.len() {
-        return Left { held: n, at: 0 };
-    }
-    let at = answer_line(space, 0, n, out, 0);
-    let next = e + 1;
-    answer_rows(space, &input[next..], out, at)
-}
-
-// The rows that end in the first n bytes of a block: their answers stand at the output's start, and the row that does not end is held. What stands
-// behind the held bytes is left free.
-pub fn answer_block(
-    space: &mut [u8; HELD],
-    held: usize,
-    block: &[u8; BLOCK],
-    n: usize,
-    out: &mut [u8; ROOM],
-) -> Left
-    ensures out_after { (result.at, out.new) ≡ at_start (answers (take held space.old) (take n block.now)) out.old }
-    ensures space_after { take result.held space.new ≡ held_of (unfinished (take held space.old) (take n block.now)) }
-{
-    answer_input(space, held, part(block, 0, n), out)
+    let mut w = Writer { bytes: out, at: 0 };
+    answer_input(begun, block, &mut w);
+    w.at
 }
 
 // The answer for a last row without a line end, if there is one.
-pub fn answer_last(space: &[u8; HELD], held: usize, out: &mut [u8; ROOM]) -> usize
-    ensures { (result, out.new) ≡ at_start (last_answer (take held space.now)) out.old }
+pub fn answer_last(begun: &Begun, out: &mut [u8; ROOM]) -> usize
+    ensures out_after { (result, out.new) ≡ at_start (last_answer begun.now) out.old }
+    ensures room { result ≤ ROOM }
 {
-    if held == 0 {
+    let row = begun.row();
+    if row.is_empty() {
         return 0;
     }
-    answer_line(space, 0, held, out, 0)
+    let mut w = Writer { bytes: out, at: 0 };
+    answer_line(row, &mut w);
+    w.at
 }

@@ -6,7 +6,9 @@ use Rattle.common.proofs.Tests.{by_test}
 use Rattle.thumb.specs.Pair.{is_first_half, is_pair, is_second_half}
 use Rattle.pairs.proofs.Halves.{not_both}
 use Rattle.image.specs.Bytes.{half}
-use Rattle.image.specs.Stretches.{Stretch, pairs, set_at}
+use Rattle.std.proofs.Common.{Ok}
+use Rattle.image.specs.Stretches.{pairs, set_at}
+use Rattle.image.specs.declared.Stretch.{Stretch}
 use Rattle.image.specs.Refusal.{unit, refusal, refusal_at}
 use Rattle.image.specs.declared.Set.{Set}
 use Rattle.image.specs.declared.Set.TheVariants.{Arm, Thumb}
@@ -145,7 +147,7 @@ module _ (image list : List ℕ) (v : Valid image list) where
       (λ t. let l = ltb-false at (length image) t in rw (steps_end image list base at (no_step image (pairs list) at l)) (omega (arith, p.within, l)))
 
 -- "At the image's end the answer is an end mark", and nowhere before
-pub at_end : (image list : List ℕ) (at : ℕ) → refusal_at image list at ≡ 0 → has_step image (pairs list) at ≡ false → at ≡ length image
+pub at_end : (image list : List ℕ) (at : ℕ) → refusal_at image list at ≡ Ok tt → has_step image (pairs list) at ≡ false → at ≡ length image
 at_end image list at e t =
     let p = placed image list at e in
     let v = valid image list (not_refused image list at e) in
@@ -154,7 +156,7 @@ at_end image list at e t =
     (λ l. omega (arith, p.within, ltb-false at (length image) l))
 
 -- "no byte is listed twice": from a place that is not refused the steps follow one another, without gap or overlap, to the image's end
-pub steps_follow : (image list : List ℕ) (base at : ℕ) → refusal_at image list at ≡ 0 → Follow at (steps image list base at) (length image)
+pub steps_follow : (image list : List ℕ) (base at : ℕ) → refusal_at image list at ≡ Ok tt → Follow at (steps image list base at) (length image)
 steps_follow image list base at e = follow_for image list (valid image list (not_refused image list at e)) base (length image - at) at (omega arith) (placed image list at e)
 
 -- ---- what follows from that of any steps
@@ -164,11 +166,11 @@ follow_total at to [] f = omega (arith, f)
 follow_total at to (s ∷ ss) f = let ih = follow_total (at + s.bytes) to ss f.2 in omega arith
 
 -- "The byte lengths of a resumed listing add up to the image's length less that offset"
-pub lengths_add : (image list : List ℕ) (base at : ℕ) → refusal_at image list at ≡ 0 → total (steps image list base at) ≡ length image - at
+pub lengths_add : (image list : List ℕ) (base at : ℕ) → refusal_at image list at ≡ Ok tt → total (steps image list base at) ≡ length image - at
 lengths_add image list base at e = let f = follow_total at (length image) (steps image list base at) (steps_follow image list base at e) in omega arith
 
 -- "Over a full listing the byte lengths add up to the image's length"
-pub full_adds : (image list : List ℕ) (base : ℕ) → refusal image list ≡ 0 → total (steps image list base 0) ≡ length image
+pub full_adds : (image list : List ℕ) (base : ℕ) → refusal image list ≡ Ok tt → total (steps image list base 0) ≡ length image
 full_adds image list base e = let f = lengths_add image list base 0 (start image list e) in omega arith
 
 -- a byte before the first step is in none
@@ -187,14 +189,14 @@ once k at to (s ∷ ss) f h g =
     (λ t. let i = ih (ltb-false _ _ t) g in rw (f.0, le-leb at k h, t) (omega arith))
 
 -- "no byte is listed twice": from a place that is not refused each byte is in exactly one step, and none before it is in any
-pub bytes_once : (image list : List ℕ) (base at k : ℕ) → refusal_at image list at ≡ 0 → at ≤ k → k < length image → times k (steps image list base at) ≡ 1
+pub bytes_once : (image list : List ℕ) (base at k : ℕ) → refusal_at image list at ≡ Ok tt → at ≤ k → k < length image → times k (steps image list base at) ≡ 1
 bytes_once image list base at k e h g = once k at (length image) (steps image list base at) (steps_follow image list base at e) h g
 
-pub bytes_before : (image list : List ℕ) (base at k : ℕ) → refusal_at image list at ≡ 0 → k < at → times k (steps image list base at) ≡ 0
+pub bytes_before : (image list : List ℕ) (base at k : ℕ) → refusal_at image list at ≡ Ok tt → k < at → times k (steps image list base at) ≡ 0
 bytes_before image list base at k e h = none_before k at (length image) (steps image list base at) (steps_follow image list base at e) h
 
 -- over a full listing each byte is in one
-pub byte_once : (image list : List ℕ) (base k : ℕ) → refusal image list ≡ 0 → k < length image → times k (steps image list base 0) ≡ 1
+pub byte_once : (image list : List ℕ) (base k : ℕ) → refusal image list ≡ Ok tt → k < length image → times k (steps image list base 0) ≡ 1
 byte_once image list base k e h = bytes_once image list base 0 k (start image list e) (omega arith) h
 
 -- the listing ends: there are at most half as many steps as bytes
@@ -208,7 +210,7 @@ few_for image ss base (suc fuel) at =
     (λ t. let l = step_inside image ss at t in rw t (omega (arith, b, l, ih)))
     (λ t. rw t (omega arith))
 
-pub steps_few : (image list : List ℕ) (base at : ℕ) → refusal image list ≡ 0 → length (steps image list base at) ≤ 32768
+pub steps_few : (image list : List ℕ) (base at : ℕ) → refusal image list ≡ Ok tt → length (steps image list base at) ≤ 32768
 unfolding steps
 steps_few image list base at e =
     let f = few_for image (pairs list) base (length image - at) at in

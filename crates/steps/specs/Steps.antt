@@ -8,7 +8,8 @@ use Rattle.thumb.specs.Pair.{is_pair}
 use Rattle.thumb_print.specs.Print.{thumb_line}
 use Rattle.pairs.specs.Print.{pair_line}
 use Rattle.image.specs.Bytes.{half, word}
-use Rattle.image.specs.Stretches.{Stretch, pairs, set_at}
+use Rattle.image.specs.Stretches.{pairs, set_at}
+use Rattle.image.specs.declared.Stretch.{Stretch}
 use Rattle.image.specs.declared.Set.{Set}
 use Rattle.image.specs.declared.Set.TheVariants.{Arm, Thumb}
 use Rattle.steps.specs.declared.Span.{Span}

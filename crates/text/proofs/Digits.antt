@@ -155,16 +155,3 @@ hex_eight n =
       g,
       asked (n / 0x10000000) 1 (omega arith),
     )
-
--- ---- the steps of the code's loop
-module _ (b v : ℕ) (s : List ℕ) (i : ℕ) where
-  pub value_step : i < length s → value_from b v (drop i s) ≡ value_from b ((v * b + digit_value (get_or s i 0)) % 2 ^ 32) (drop (i + 1) s)
-  unfolding value_from
-  value_step h = rw (drop-cons s i 0 h, add-one)
-
-  pub value_out : length s ≤ i → value_from b v (drop i s) ≡ v
-  unfolding value_from
-  value_out h = rw (drop_of_length-le s h)
-
-pub times_small : (v b : ℕ) → v < 2 ^ 32 → b ≤ 16 → v * b < 2 ^ 36
-times_small v b h g = let m = mul-le-mul_left v g in omega arith

@@ -1,5 +1,7 @@
 pub mod Wrote
+pub mod Puts
 pub mod Digits
 pub mod Within
 pub mod Word
 pub mod Packed
+pub mod Places

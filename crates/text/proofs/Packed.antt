@@ -1,15 +1,16 @@
 -- Texts as numbers: a text is found in a list of short texts where its number is found in the list of theirs. Assumes nothing.
 use mathlib.Core.Path.{◌≡◌, refl, sym, ap, ap₂, ◌∙◌}
 use mathlib.Core.Bool.{Bool, true, false, ◌&&◌, not, true≢false}
-use mathlib.Core.List.{List, [], ◌∷◌, map}
-use Prim.Native.Nat.{ℕ, zero, suc, ◌+◌, ◌-◌, ◌*◌, ◌^◌, ◌≤◌, ◌<◌}
+use mathlib.Core.List.{List, [], ◌∷◌, map, reverse}
+use Prim.Native.Nat.{ℕ, zero, suc, ◌+◌, ◌-◌, ◌%◌, ◌*◌, ◌^◌, ◌≤◌, ◌<◌}
 use native.Mathlib.Nat.{pow-suc, pow-le-pow_right}
-use native.Mathlib.Numerals.{add-one}
 use native.Mathlib.Omega.{arith}
 use lib.Dec.{ltb, leb, eqb}
-use lib.ListN.{length, drop, get_or, length-drop}
-use lib.Seq.{drop-cons, get_or-drop}
+use lib.ListN.{length, get_or}
 use borrow.Author.Tests.{eqb-true, eqb-false, ne_eqb, le-leb, lt-leb, ltb-true}
+use Rattle.std.proofs.lemmas.Grind.{reverse_onto}
+use Rattle.std.proofs.lemmas.List.Sums.{fold_push}
+use Rattle.std.specs.List.{fold, list_any}
 use Rattle.common.specs.Lists.{same, first, find, place}
 use Rattle.common.proofs.Lists.{same_refl, other}
 use Rattle.common.proofs.Tests.{by_test, and_left, and_right}
@@ -86,7 +87,7 @@ find_packed (w ∷ ws) l f h =
     let ih = find_packed ws l (and_right (bytes w && (short w && ltb (number w) none)) (fit ws) f) h in
     rw (e, ih)
 
--- ---- the steps of the code's loop, from the last byte to the first
+-- ---- as the code folds them, from the last byte to the first
 pub number_lt : (l : List ℕ) → Bytes l → number l < 256 ^ length l
 number_lt [] h = omega arith
 number_lt (x ∷ xs) h =
@@ -94,36 +95,31 @@ number_lt (x ∷ xs) h =
     let hx : x < 256 = h 0 in
     rw pow-suc (omega arith)
 
--- a byte that fails anywhere fails the whole
-pub all_drop : (p : ℕ → Bool) (s : List ℕ) (i : ℕ) → all p (drop i s) ≡ false → all p s ≡ false
-all_drop p s zero e = e
-all_drop p [] (suc i) e = e
-all_drop p (x ∷ xs) (suc i) e = by_test (p x) (λ t. rw t (all_drop p xs i e)) (λ t. rw t)
+abbrev pub push : ℕ → ℕ → ℕ
+push v x = v * 2 ^ 8 % 2 ^ 64 + x
 
--- before byte i: the number of the bytes from it on, and that it leaves room for one more
-module _ (s : List ℕ) (h : Bytes s) (i : ℕ) (l : i < length s) where
-  pub number_step : number (drop i s) ≡ number (drop (i + 1) s) * 256 + get_or s i 0
-  number_step = rw (drop-cons s i 0 l, add-one)
+pub number_folds : (l : List ℕ) → Bytes l → length l ≤ 8 → fold push 0 (reverse l) ≡ number l
+number_folds [] h k = refl
+number_folds (x ∷ xs) h k =
+    let ih = number_folds xs (λ i. h (suc i)) (omega arith) in
+    let a = number_lt xs (λ i. h (suc i)) in
+    let b : length xs ≤ 7 = omega arith in
+    let c = pow-le-pow_right {n = 256} (omega arith) b in
+    rw (reverse_onto xs x [], fold_push push 0 (reverse xs) x, ih) (omega arith)
 
-  pub some_step : all some (drop i s) ≡ (some (get_or s i 0) && all some (drop (i + 1) s))
-  some_step = rw (drop-cons s i 0 l, add-one)
-
-  pub number_small : length s ≤ 8 → number (drop (i + 1) s) < 2 ^ 56
-  number_small k =
-      let a = number_lt (drop (i + 1) s) (λ j. rw get_or-drop (h (i + 1 + j))) in
-      let b : length (drop (i + 1) s) ≤ 7 = rw length-drop (omega arith) in
-      let c = pow-le-pow_right {n = 256} (omega arith) b in
-      omega arith
+all_some : (l : List ℕ) → all some l ≡ not (list_any (λ y. eqb y 0) l)
+all_some [] = refl
+all_some (x ∷ xs) = let ih = all_some xs in by_test (eqb x 0) (λ t. rw t) (λ t. rw t ih)
 
 -- what is returned: a text that is too long, one with a byte 0, and any other
 pub packed_long : (s : List ℕ) → 8 < length s → none ≡ packed s
 unfolding packed
 packed_long s h = rw (lt-leb (length s) 8 h)
 
-pub packed_zero : (s : List ℕ) (i : ℕ) → length s ≤ 8 → all some (drop i s) ≡ false → none ≡ packed s
+pub packed_zero : (s : List ℕ) → length s ≤ 8 → list_any (λ y. eqb y 0) s ≡ true → none ≡ packed s
 unfolding packed
-packed_zero s i h e = rw (le-leb (length s) 8 h, all_drop some s i e)
+packed_zero s h e = rw (le-leb (length s) 8 h, all_some s, e)
 
-pub packed_short : (s : List ℕ) → length s ≤ 8 → all some s ≡ true → number s ≡ packed s
+pub packed_short : (s : List ℕ) → length s ≤ 8 → list_any (λ y. eqb y 0) s ≡ false → number s ≡ packed s
 unfolding packed
-packed_short s h e = rw (le-leb (length s) 8 h, e)
+packed_short s h e = rw (le-leb (length s) 8 h, all_some s, e)

@@ -7,10 +7,10 @@ use native.Mathlib.Omega.{arith}
 use lib.Dec.{ltb, leb, eqb}
 use lib.ListN.{length, get_or}
 use lib.Seq.{take_at, drop_at}
-use borrow.Author.Tests.{eqb-true, le-ltb, lt-ltb, ltb-false, ltb-true}
-use Rattle.common.specs.Lists.{find, first}
+use borrow.Author.Tests.{eqb-true}
+use Rattle.common.specs.Lists.{first}
 use Rattle.common.proofs.Tests.{by_test, and_left, and_right, at}
-use Rattle.text.specs.Word.{is_word, is_gap, word, behind, after, has, all}
+use Rattle.text.specs.Word.{is_word, is_gap, word, behind, after, all}
 use Rattle.text.specs.Digits.{digit, digits, hex, prefixed, dec}
 use Rattle.text.proofs.Digits.{below}
 
@@ -160,16 +160,3 @@ digits_first (suc k) w n =
 pub dec_first : (n : ℕ) → ltb (get_or (dec n) 0 0) 58 ≡ true
 unfolding dec
 dec_first n = digits_first 10 1 n
-
--- a byte that stands in a line has a place in it
-pub has_place : (x : ℕ) (s : List ℕ) → has x s ≡ ltb (find x s) (length s)
-unfolding has first
-has_place x [] = refl
-has_place x (y ∷ s) =
-    let ih = has_place x s in
-    let k = find x s in
-    let n = length s in
-    by_test (eqb y x) (λ e. rw e (sym (lt-ltb 0 (suc n) (omega arith))))
-    (λ e. by_test (ltb k n)
-    (λ t. let h = ltb-true k n t in rw (e, ih, t, lt-ltb (suc k) (suc n) (omega arith)))
-    (λ t. let h = ltb-false k n t in rw (e, ih, t, le-ltb (suc k) (suc n) (omega arith))))

@@ -1,7 +1,7 @@
 -- Laws of writing: one write after the other, what is kept, and where the bytes stand. Assumes nothing.
 use mathlib.Core.Path.{◌≡◌, refl, ap, sym, ◌∙◌}
 use mathlib.Core.Bool.{Bool, true, false, cond}
-use mathlib.Core.List.{List, [], ◌∷◌, ◌++◌, append_assoc, append-nil}
+use mathlib.Core.List.{List, [], ◌∷◌, ◌++◌, append-nil}
 use Prim.Native.Nat.{ℕ, suc, ◌+◌, ◌-◌, ◌≤◌, ◌<◌}
 use native.Mathlib.Nat.{add-zero, zero-add, add-suc, suc-add}
 use native.Mathlib.Numerals.{add-one}
@@ -11,10 +11,10 @@ use lib.Dec.{ltb}
 use lib.ListN.{length, set, take, drop, get_or, length-set, length-take, take-append-drop}
 use lib.Seq.{append_snoc, drop-length, drop-set-lt, length-take-le, set-get_or, take_all, take-append_seam, take-nil, take-suc, take-suc-set}
 use Rattle.common.proofs.Tests.{by_test}
-use Rattle.text.specs.Wrote.{Behind, Place, Wrote, WroteBoth, fitting, store, stores}
+use Rattle.text.specs.Wrote.{Behind, Place, Wrote, fitting, store, stores}
 
-infixl 60 ◌⨾◌ ◌⨾⨾◌
-stores_append : (p : Place) (x y : List ℕ) → stores (stores p x) y ≡ stores p (x ++ y)
+infixl 60 ◌⨾◌
+pub stores_append : (p : Place) (x y : List ℕ) → stores (stores p x) y ≡ stores p (x ++ y)
 stores_append p [] y = refl
 stores_append p (b ∷ x) y = stores_append (store p b) x y
 
@@ -32,30 +32,6 @@ cut {l} {at} x y w =
 -- the same bytes said otherwise
 pub same_as : {l : List ℕ} {at : ℕ} {x y l' : List ℕ} {r : ℕ} → Wrote l at x l' r → x ≡ y → Wrote l at y l' r
 same_as p e = record { after = rw (← e) p.after }
-
--- a text behind another and two behind that, bracketed from the left as lines are
-pub ◌⨾⨾◌ : {l : List ℕ} {at : ℕ} {x l₁ : List ℕ} {r₁ : ℕ} {y z l₂ : List ℕ} {r₂ : ℕ} → Wrote l at x l₁ r₁ → WroteBoth l₁ r₁ y z l₂ r₂ → Wrote l at (x ++ y ++ z) l₂ r₂
-◌⨾⨾◌ {x = x} {y = y} {z = z} p q = same_as (p ⨾ q.whole) (sym (append_assoc x y z))
-
--- nothing written
-pub nothing : {l : List ℕ} {at : ℕ} → Wrote l at [] l at
-nothing = record { after = refl }
-
--- a byte written, and none for want of room
-pub one : {l : List ℕ} {at b : ℕ} → at < length l → Wrote l at (b ∷ []) (set l at b) (at + 1)
-one {l} {at} h = record { after = rw (lt-ltb at (length l)) }
-
-pub full : {l : List ℕ} {at b : ℕ} → length l ≤ at → Wrote l at (b ∷ []) l at
-full {l} {at} h = record { after = rw (le-ltb at (length l)) }
-
--- a byte written or not, where its place is stored to in any case
-pub one_if : (b : Bool) (x : ℕ) {l : List ℕ} {at : ℕ} → at < length l → Wrote l at (cond b (x ∷ []) []) (set l at (cond b x (get_or l at 0))) (at + cond b 1 0)
-one_if true x h = one h
-one_if false x {l} {at} h = rw (set-get_or l at 0, add-zero) nothing
-
-pub full_if : (b : Bool) (x : ℕ) {l : List ℕ} {at : ℕ} → length l ≤ at → Wrote l at (cond b (x ∷ []) []) l at
-full_if true x h = full h
-full_if false x h = nothing
 
 length_store : (p : Place) (b : ℕ) → length (store p b).held ≡ length p.held
 length_store p b = by_test (ltb p.next (length p.held)) (λ e. rw e (length-set p.held p.next b)) (λ e. rw e)

@@ -1,4 +1,5 @@
 pub mod Text
 pub mod Wrote
+pub mod Puts
 pub mod Digits
 pub mod Word

@@ -22,10 +22,6 @@ stores p (b ∷ bs) = stores (store p b) bs
 pub record Wrote (l : List ℕ) (at : ℕ) (bs l' : List ℕ) (r : ℕ) : Type 0 where
   pub after : ◌≡◌ {A = Place} (record { held = l'; next = r }) (stores (record { held = l; next = at }) bs)
 
--- The bytes x, and then the bytes y.
-pub record WroteBoth (l : List ℕ) (at : ℕ) (x y l' : List ℕ) (r : ℕ) : Type 0 where
-  pub whole : Wrote l at (x ++ y) l' r
-
 -- those of the bytes bs that a buffer l has room for from the place at on
 abbrev pub fitting : List ℕ → ℕ → List ℕ → List ℕ
 fitting l at bs = take (length l - at) bs

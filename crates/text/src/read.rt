@@ -1,8 +1,8 @@
 // Readers of what the writers write. Each takes any bytes.
-ghost use Rattle.std.specs.Prelude.{◌≡◌, ◌+◌, ◌≤◌, ◌<◌, length};
-ghost use Rattle.common.specs.Lists.{same, first, find};
+ghost use Rattle.std.specs.Prelude.{◌≡◌, ◌+◌, ◌*◌, ◌%◌, ◌^◌, ◌≤◌, ◌<◌, length};
+ghost use Rattle.common.specs.Lists.{first};
 ghost use Rattle.text.specs.Digits.{digit_value, value};
-ghost use Rattle.text.specs.Word.{is_word, is_gap, word, behind, after, has, packed};
+ghost use Rattle.text.specs.Word.{is_word, is_gap, word, behind, after, packed};
 
 // Whether a byte is a digit or a small letter.
 pub fn is_word(x: u8) -> bool
@@ -24,29 +24,14 @@ pub fn is_word(x: u8) -> bool
 fn word_length(s: &[u8]) -> usize
     ensures { (result ≡ first is_gap s.now) × (result ≤ length s.now) }
 {
-    let mut i = 0;
-    while i < s.len() {
-        if is_word(s[i]) {
-            i += 1;
-        } else {
-            return i;
-        }
-    }
-    i
+    s.iter().position(|x| !is_word(*x)).unwrap_or(s.len())
 }
 
 // How many bytes stand before the first word.
 fn gap_length(s: &[u8]) -> usize
     ensures { (result ≡ first is_word s.now) × (result ≤ length s.now) }
 {
-    let mut i = 0;
-    while i < s.len() {
-        if is_word(s[i]) {
-            return i;
-        }
-        i += 1;
-    }
-    i
+    s.iter().position(|x| is_word(*x)).unwrap_or(s.len())
 }
 
 // The word that the line begins with.
@@ -74,7 +59,8 @@ pub fn next_word(s: &[u8]) -> &[u8]
     &t[n..]
 }
 
-// The value of a digit, and 16 for any other byte: the digit that a byte could be by its low bits, and whether it is that one.
+// The value of a digit, and 16 for any other byte: the digit that a byte could be by its low bits, and whether it is that one. No Option: `value` counts
+// 16 for such a byte too, so that a number is read without a branch.
 pub fn digit_value(x: u8) -> u64
     ensures { (result ≡ digit_value x) × (result < 17) }
 {
@@ -87,101 +73,34 @@ pub fn digit_value(x: u8) -> u64
 }
 
 // The number, modulo 2^32, that the bytes write in a base.
-fn number_in(base: u64, s: &[u8]) -> u32
-    requires { base ≤ 16 }
-    ensures { result ≡ value base s.now }
+pub fn read_number<const BASE: u32>(s: &[u8]) -> u32
+    ensures { result ≡ value BASE s.now }
 {
-    let mut v: u64 = 0;
-    let mut i = 0;
-    while i < s.len() {
-        v = (v * base + digit_value(s[i])) % 0x1_0000_0000;
-        i += 1;
-    }
-    v as u32
+    s.iter().fold(
+        0,
+        |v: u32, x: &u8| -> u32
+            ensures { result ≡ (v * BASE + digit_value x.now) % 2 ^ 32 }
+        { ((v as u64 * BASE as u64 + digit_value(*x)) % 0x1_0000_0000) as u32 },
+    )
 }
 
-// The number, modulo 2^32, that the bytes write in decimal.
-pub fn read_dec(s: &[u8]) -> u32
-    ensures { result ≡ value 10 s.now }
-{
-    number_in(10, s)
-}
-
-// The number, modulo 2^32, that the bytes write in hexadecimal.
-pub fn read_hex(s: &[u8]) -> u32
-    ensures { result ≡ value 16 s.now }
-{
-    number_in(16, s)
-}
-
-// A text of at most eight bytes as one number, the first byte lowest.
+// A text of at most eight bytes, none of them 0, as one number, the first byte lowest; any other text as the highest number, which no name has. No Option:
+// the number is looked up among those of names, and that one is not found.
 pub fn pack(s: &[u8]) -> u64
     ensures { result ≡ packed s.now }
 {
     if 8 < s.len() {
-        return 0xffff_ffff_ffff_ffff;
+        return u64::MAX;
     }
-    let mut v: u64 = 0;
-    let mut i = s.len();
-    while 0 < i {
-        i -= 1;
-        let x = s[i] as u64;
-        if x == 0 {
-            return 0xffff_ffff_ffff_ffff;
-        }
-        v = v * 256 + x;
+    if s.contains(&0) {
+        return u64::MAX;
     }
-    v
+    s.iter().rev().fold(0, |v: u64, x| (v << 8) + u64::from(*x))
 }
 
-// Where a number stands in a list, or the list's length where it does not.
-pub fn position(xs: &[u64], n: u64) -> usize
-    ensures { (result ≡ find n xs.now) × (result ≤ length xs.now) }
+// Where an item stands in a list, or the list's length where it does not: a line that is cut there is whole then.
+pub fn index_of<T: PartialEq + Copy>(xs: &[T], x: T) -> usize
+    ensures { (result ≡ first (λ y. T.eq y x) xs.now) × (result ≤ length xs.now) }
 {
-    let mut i = 0;
-    while i < xs.len() {
-        if xs[i] == n {
-            return i;
-        }
-        i += 1;
-    }
-    i
-}
-
-// Where a byte stands in a line, or the line's length where it does not.
-pub fn index_of(s: &[u8], x: u8) -> usize
-    ensures { (result ≡ find x s.now) × (result ≤ length s.now) }
-{
-    let mut i = 0;
-    while i < s.len() {
-        if s[i] == x {
-            return i;
-        }
-        i += 1;
-    }
-    i
-}
-
-// Whether two texts are equal.
-pub fn equal(a: &[u8], b: &[u8]) -> bool
-    ensures { result ≡ same a.now b.now }
-{
-    if a.len() != b.len() {
-        return false;
-    }
-    let mut i = 0;
-    while i < a.len() {
-        if a[i] != b[i] {
-            return false;
-        }
-        i += 1;
-    }
-    true
-}
-
-// Whether a byte stands in a line.
-pub fn contains(s: &[u8], x: u8) -> bool
-    ensures { result ≡ has x s.now }
-{
-    index_of(s, x) < s.len()
+    xs.iter().position(|y| *y == x).unwrap_or(xs.len())
 }

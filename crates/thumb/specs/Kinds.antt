@@ -1,14 +1,11 @@
 -- The kinds of Thumb words: the first row of mask, value and kind that a word meets. Assumes nothing.
-use Rattle.std.specs.Prelude.{ℕ, Bool, List, [], ◌∷◌, ◌==◌, bit_and, slice_index_or}
+use Rattle.std.specs.Prelude.{ℕ, List, [], ◌∷◌, slice_index_or}
 use Rattle.arm7tdmi.specs.declared.Form.{Form}
 use Rattle.arm7tdmi.specs.declared.Form.TheVariants.{Bench, Sheet}
-use Rattle.thumb.specs.declared.ThumbRow.{ThumbRow}
+use Rattle.arm7tdmi.specs.declared.kinds.Row.{Row}
 use Rattle.thumb.specs.declared.ThumbFormat.{ThumbFormat}
 use Rattle.thumb.specs.declared.ThumbFormat.TheVariants as H
-use Rattle.arm7tdmi.specs.Kinds.{first_match}
-
-abbrev thumb_row : ℕ → ℕ → ThumbFormat → ThumbRow
-thumb_row m v k = record { mask = m; value = v; kind = k }
+use Rattle.arm7tdmi.specs.Kinds.{row, first_row}
 
 -- DExx: bench, a branch as the row behind says; sheet (S7), "DExx is Undefined"
 abbrev pub trap_format : Form → ThumbFormat
@@ -16,41 +13,38 @@ trap_format Bench = H.BranchConditional
 trap_format Sheet = H.Undefined
 
 -- the Rust's tests, in its order, with a row for DExx
-unfoldable pub thumb_rows : Form → List ThumbRow
+unfoldable pub thumb_rows : Form → List (Row ThumbFormat)
 thumb_rows form =
-    thumb_row 0xf800 0x1800 H.AddSub ∷
-    thumb_row 0xe000 0x0000 H.MoveShiftedReg ∷
-    thumb_row 0xe000 0x2000 H.DataProcessImm ∷
-    thumb_row 0xfc00 0x4000 H.AluOps ∷
-    thumb_row 0xfc00 0x4400 H.HiRegOpOrBranchExchange ∷
-    thumb_row 0xf800 0x4800 H.LdrPc ∷
-    thumb_row 0xf200 0x5000 H.LdrStrRegOffset ∷
-    thumb_row 0xf200 0x5200 H.LdrStrSHB ∷
-    thumb_row 0xe000 0x6000 H.LdrStrImmOffset ∷
-    thumb_row 0xf000 0x8000 H.LdrStrHalfWord ∷
-    thumb_row 0xf000 0x9000 H.LdrStrSp ∷
-    thumb_row 0xf000 0xa000 H.LoadAddress ∷
-    thumb_row 0xff00 0xb000 H.AddSp ∷
-    thumb_row 0xf600 0xb400 H.PushPop ∷
-    thumb_row 0xf000 0xc000 H.LdmStm ∷
-    thumb_row 0xff00 0xdf00 H.Swi ∷
-    thumb_row 0xff00 0xde00 (trap_format form) ∷
-    thumb_row 0xf000 0xd000 H.BranchConditional ∷
-    thumb_row 0xf800 0xe000 H.Branch ∷
-    thumb_row 0xf000 0xf000 H.BranchLongWithLink ∷
+    row 0xf800 0x1800 H.AddSub ∷
+    row 0xe000 0x0000 H.MoveShiftedReg ∷
+    row 0xe000 0x2000 H.DataProcessImm ∷
+    row 0xfc00 0x4000 H.AluOps ∷
+    row 0xfc00 0x4400 H.HiRegOpOrBranchExchange ∷
+    row 0xf800 0x4800 H.LdrPc ∷
+    row 0xf200 0x5000 H.LdrStrRegOffset ∷
+    row 0xf200 0x5200 H.LdrStrSHB ∷
+    row 0xe000 0x6000 H.LdrStrImmOffset ∷
+    row 0xf000 0x8000 H.LdrStrHalfWord ∷
+    row 0xf000 0x9000 H.LdrStrSp ∷
+    row 0xf000 0xa000 H.LoadAddress ∷
+    row 0xff00 0xb000 H.AddSp ∷
+    row 0xf600 0xb400 H.PushPop ∷
+    row 0xf000 0xc000 H.LdmStm ∷
+    row 0xff00 0xdf00 H.Swi ∷
+    row 0xff00 0xde00 (trap_format form) ∷
+    row 0xf000 0xd000 H.BranchConditional ∷
+    row 0xf800 0xe000 H.Branch ∷
+    row 0xf000 0xf000 H.BranchLongWithLink ∷
     []
 
-abbrev pub thumb_none : ThumbRow
-thumb_none = thumb_row 0 0 H.Undefined
+abbrev pub thumb_none : Row ThumbFormat
+thumb_none = row 0 0 H.Undefined
 
-abbrev pub thumb_row_at : Form → ℕ → ThumbRow
+abbrev pub thumb_row_at : Form → ℕ → Row ThumbFormat
 thumb_row_at form i = slice_index_or (thumb_rows form) i thumb_none
 
-abbrev pub thumb_met : ℕ → ThumbRow → Bool
-thumb_met w r = bit_and w r.mask == r.value
-
-abbrev pub thumb_first : List ThumbRow → ℕ → ThumbFormat
-thumb_first = first_match (λ (r : ThumbRow). r.mask) (λ (r : ThumbRow). r.value) (λ (r : ThumbRow). r.kind) H.Undefined
+abbrev pub thumb_first : List (Row ThumbFormat) → ℕ → ThumbFormat
+thumb_first = first_row H.Undefined
 
 abbrev pub thumb_format : Form → ℕ → ThumbFormat
 thumb_format form w = thumb_first (thumb_rows form) w

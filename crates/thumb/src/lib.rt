@@ -1,12 +1,11 @@
 // Thumb words: their kinds and their fields, as in the Rust's thumb/mod.rs.
 #![tactic(auto)]
 
-ghost use Rattle.std.specs.Prelude.{◌≡◌, ◌<◌, slice_index_or};
-ghost use Rattle.common.specs.Lists.{first as firstPlace};
+ghost use Rattle.std.specs.Prelude.{◌≡◌};
 ghost use Rattle.common.specs.Bits.{bit, bit_range};
 ghost use Rattle.arm7tdmi.specs.Alu.{barrel_shift_op_code};
 ghost use Rattle.arm7tdmi.specs.Cond.{arm_cond};
-ghost use Rattle.thumb.specs.Kinds.{thumb_met, thumb_none, thumb_rows, thumb_first, thumb_format, thumb_number};
+ghost use Rattle.thumb.specs.Kinds.{trap_format, thumb_rows, thumb_format, thumb_number};
 ghost use Rattle.thumb.specs.Fields.{op_format3, op_format5, thumb_alu_op, thumb_alu_number, bcond_offset, branch_offset11, call_offset, bcond_target, branch_target, pc_load_address, call_half, word8, sword7};
 ghost use Rattle.thumb.specs.Pair.{is_first_half, is_second_half, is_pair, pair_target};
 ghost use Rattle.thumb.specs.Record.{byte_length, decoded, halfwords_of, leading};
@@ -16,13 +15,11 @@ use arm7tdmi::Form;
 use arm7tdmi::alu::BarrelShiftOpCode;
 use arm7tdmi::bit::{bit, bit_range};
 use arm7tdmi::cond::ArmCond;
+use arm7tdmi::kinds::{Row, first_match};
 use arm7tdmi::memory::{Addr, move_by};
-use signed::{negative, signed_times};
-
-mod signed;
 
 // The kinds of Thumb words.
-#[derive(Clone, Copy)]
+#[derive(Clone, Copy, Debug, PartialEq, Eq)]
 pub enum ThumbFormat {
     MoveShiftedReg,
     AddSub,
@@ -46,216 +43,71 @@ pub enum ThumbFormat {
     Undefined,
 }
 
-impl ThumbFormat {
-    // The kind's number, in the order of the enum.
-    pub fn number(self) -> u32
-        ensures { result ≡ thumb_number self }
-    {
-        match self {
-            ThumbFormat::MoveShiftedReg => 0,
-            ThumbFormat::AddSub => 1,
-            ThumbFormat::DataProcessImm => 2,
-            ThumbFormat::AluOps => 3,
-            ThumbFormat::HiRegOpOrBranchExchange => 4,
-            ThumbFormat::LdrPc => 5,
-            ThumbFormat::LdrStrRegOffset => 6,
-            ThumbFormat::LdrStrSHB => 7,
-            ThumbFormat::LdrStrImmOffset => 8,
-            ThumbFormat::LdrStrHalfWord => 9,
-            ThumbFormat::LdrStrSp => 10,
-            ThumbFormat::LoadAddress => 11,
-            ThumbFormat::AddSp => 12,
-            ThumbFormat::PushPop => 13,
-            ThumbFormat::LdmStm => 14,
-            ThumbFormat::BranchConditional => 15,
-            ThumbFormat::Swi => 16,
-            ThumbFormat::Branch => 17,
-            ThumbFormat::BranchLongWithLink => 18,
-            ThumbFormat::Undefined => 19,
-        }
+// A kind's number, in the order of the enum.
+impl From<ThumbFormat> for u32 {
+    ghost from_gives = { λ fmt n. n ≡ thumb_number fmt };
+
+    fn from(fmt: ThumbFormat) -> u32 {
+        fmt as u32
     }
 }
 
-#[derive(Clone, Copy)]
-pub struct ThumbRow {
-    pub mask: u16,
-    pub value: u16,
-    pub kind: ThumbFormat,
+// The kind of DExx.
+fn trap_format(form: Form) -> ThumbFormat
+    ensures { result ≡ trap_format form }
+{
+    match form {
+        Form::Bench => ThumbFormat::BranchConditional,
+        Form::Sheet => ThumbFormat::Undefined,
+    }
 }
 
-// The rows in the order in which they are tried, as the bench has them: the Rust's, and one for DExx.
-const THUMB_ROWS: [ThumbRow; 20] = [
-    ThumbRow {
-        mask: 0xf800,
-        value: 0x1800,
-        kind: ThumbFormat::AddSub,
-    },
-    ThumbRow {
-        mask: 0xe000,
-        value: 0x0000,
-        kind: ThumbFormat::MoveShiftedReg,
-    },
-    ThumbRow {
-        mask: 0xe000,
-        value: 0x2000,
-        kind: ThumbFormat::DataProcessImm,
-    },
-    ThumbRow {
-        mask: 0xfc00,
-        value: 0x4000,
-        kind: ThumbFormat::AluOps,
-    },
-    ThumbRow {
-        mask: 0xfc00,
-        value: 0x4400,
-        kind: ThumbFormat::HiRegOpOrBranchExchange,
-    },
-    ThumbRow {
-        mask: 0xf800,
-        value: 0x4800,
-        kind: ThumbFormat::LdrPc,
-    },
-    ThumbRow {
-        mask: 0xf200,
-        value: 0x5000,
-        kind: ThumbFormat::LdrStrRegOffset,
-    },
-    ThumbRow {
-        mask: 0xf200,
-        value: 0x5200,
-        kind: ThumbFormat::LdrStrSHB,
-    },
-    ThumbRow {
-        mask: 0xe000,
-        value: 0x6000,
-        kind: ThumbFormat::LdrStrImmOffset,
-    },
-    ThumbRow {
-        mask: 0xf000,
-        value: 0x8000,
-        kind: ThumbFormat::LdrStrHalfWord,
-    },
-    ThumbRow {
-        mask: 0xf000,
-        value: 0x9000,
-        kind: ThumbFormat::LdrStrSp,
-    },
-    ThumbRow {
-        mask: 0xf000,
-        value: 0xa000,
-        kind: ThumbFormat::LoadAddress,
-    },
-    ThumbRow {
-        mask: 0xff00,
-        value: 0xb000,
-        kind: ThumbFormat::AddSp,
-    },
-    ThumbRow {
-        mask: 0xf600,
-        value: 0xb400,
-        kind: ThumbFormat::PushPop,
-    },
-    ThumbRow {
-        mask: 0xf000,
-        value: 0xc000,
-        kind: ThumbFormat::LdmStm,
-    },
-    ThumbRow {
-        mask: 0xff00,
-        value: 0xdf00,
-        kind: ThumbFormat::Swi,
-    },
-    ThumbRow {
-        mask: 0xff00,
-        value: 0xde00,
-        kind: ThumbFormat::BranchConditional,
-    },
-    ThumbRow {
-        mask: 0xf000,
-        value: 0xd000,
-        kind: ThumbFormat::BranchConditional,
-    },
-    ThumbRow {
-        mask: 0xf800,
-        value: 0xe000,
-        kind: ThumbFormat::Branch,
-    },
-    ThumbRow {
-        mask: 0xf000,
-        value: 0xf000,
-        kind: ThumbFormat::BranchLongWithLink,
-    },
-];
-
-// The rows of a form: the sheet's differ in one.
+// The rows of a form, in the order in which they are tried: the Rust's, and one for DExx.
 #[tactic(auto, unfolding(crate::specs::Kinds::thumb_rows))]
-fn thumb_rows(form: Form) -> [ThumbRow; 20]
+fn thumb_rows(form: Form) -> [Row<ThumbFormat>; 20]
     ensures { result ≡ thumb_rows form }
 {
-    let mut rows = THUMB_ROWS;
-    if let Form::Sheet = form {
-        rows[16] = ThumbRow {
-            mask: 0xff00,
-            value: 0xde00,
-            kind: ThumbFormat::Undefined,
-        };
-    }
-    rows
-}
-
-// Where the first row stands whose mask and value the word meets, or 20.
-fn thumb_place(rows: [ThumbRow; 20], raw: u16) -> usize
-    ensures { result ≡ firstPlace (thumb_met raw) rows }
-{
-    let mut i: usize = 0;
-    while i < 20 {
-        let row = rows[i];
-        if raw & row.mask == row.value {
-            return i;
-        }
-        i += 1;
-    }
-    i
-}
-
-// The kind of the row at a place. By a walk and not by an index, so that no row has to be in memory.
-fn thumb_kind(rows: [ThumbRow; 20], place: usize) -> ThumbFormat
-    ensures { result ≡ (slice_index_or rows place thumb_none).kind }
-{
-    let mut kind = ThumbFormat::Undefined;
-    let mut i: usize = 0;
-    while i < 20 {
-        let row = rows[i];
-        if i == place {
-            kind = row.kind;
-        }
-        i += 1;
-    }
-    kind
-}
-
-// The kind of the first row whose mask and value the word meets.
-fn thumb_first(rows: [ThumbRow; 20], raw: u16) -> ThumbFormat
-    ensures { result ≡ thumb_first rows raw }
-{
-    thumb_kind(rows, thumb_place(rows, raw))
+    [
+        Row::new(0xf800, 0x1800, ThumbFormat::AddSub),
+        Row::new(0xe000, 0x0000, ThumbFormat::MoveShiftedReg),
+        Row::new(0xe000, 0x2000, ThumbFormat::DataProcessImm),
+        Row::new(0xfc00, 0x4000, ThumbFormat::AluOps),
+        Row::new(0xfc00, 0x4400, ThumbFormat::HiRegOpOrBranchExchange),
+        Row::new(0xf800, 0x4800, ThumbFormat::LdrPc),
+        Row::new(0xf200, 0x5000, ThumbFormat::LdrStrRegOffset),
+        Row::new(0xf200, 0x5200, ThumbFormat::LdrStrSHB),
+        Row::new(0xe000, 0x6000, ThumbFormat::LdrStrImmOffset),
+        Row::new(0xf000, 0x8000, ThumbFormat::LdrStrHalfWord),
+        Row::new(0xf000, 0x9000, ThumbFormat::LdrStrSp),
+        Row::new(0xf000, 0xa000, ThumbFormat::LoadAddress),
+        Row::new(0xff00, 0xb000, ThumbFormat::AddSp),
+        Row::new(0xf600, 0xb400, ThumbFormat::PushPop),
+        Row::new(0xf000, 0xc000, ThumbFormat::LdmStm),
+        Row::new(0xff00, 0xdf00, ThumbFormat::Swi),
+        Row::new(0xff00, 0xde00, trap_format(form)),
+        Row::new(0xf000, 0xd000, ThumbFormat::BranchConditional),
+        Row::new(0xf800, 0xe000, ThumbFormat::Branch),
+        Row::new(0xf000, 0xf000, ThumbFormat::BranchLongWithLink),
+    ]
 }
 
 // The kind of a word.
 pub fn thumb_format(form: Form, raw: u16) -> ThumbFormat
     ensures { result ≡ thumb_format form raw }
 {
-    thumb_first(thumb_rows(form), raw)
+    first_match(thumb_rows(form), raw as u32, ThumbFormat::Undefined)
 }
 
 // Whether a halfword is the first half of a call, by its top bits.
+#[tactic(auto, unfolding(crate::specs::Pair::is_first_half))]
 pub fn is_first_half(h: u16) -> bool
     ensures { result ≡ is_first_half h }
 {
     bit_range(h as u32, 11, 16) == 0b11110
 }
 
-// Whether a halfword is the second half of a call.
+// Whether a halfword is the second half of a call. Like a first half, but for one bit: each is one test of a field.
+#[tactic(auto, unfolding(crate::specs::Pair::is_second_half))]
 pub fn is_second_half(h: u16) -> bool
     ensures { result ≡ is_second_half h }
 {
@@ -263,17 +115,15 @@ pub fn is_second_half(h: u16) -> bool
 }
 
 // Whether two halfwords are a call: a first half and then a second.
+#[tactic(auto, unfolding(crate::specs::Pair::is_pair))]
 pub fn is_pair(first: u16, second: u16) -> bool
     ensures { result ≡ is_pair first second }
 {
-    if is_first_half(first) {
-        return is_second_half(second);
-    }
-    false
+    is_first_half(first) && is_second_half(second)
 }
 
 // The halfwords of a decoded word: one, or the two of a call.
-#[derive(Clone, Copy)]
+#[derive(Clone, Copy, Debug, PartialEq, Eq)]
 pub enum Halfwords {
     One(u16),
     Two(u16, u16),
@@ -281,6 +131,7 @@ pub enum Halfwords {
 
 impl Halfwords {
     // Of two halfwords: both, if they are a pair, and else the first alone.
+    #[tactic(auto, unfolding(crate::specs::Record::halfwords_of))]
     fn of_two(first: u16, second: u16) -> Self
         ensures { result ≡ halfwords_of first second }
     {
@@ -311,8 +162,8 @@ impl Halfwords {
     }
 }
 
-// A decoded word.
-#[derive(Clone, Copy)]
+// A decoded word. A struct of this crate, and no instance of one that arm shares, so that it has functions of its own, as in the Rust.
+#[derive(Clone, Copy, Debug, PartialEq, Eq)]
 pub struct ThumbInstruction {
     pub fmt: ThumbFormat,
     pub raw: Halfwords,
@@ -322,6 +173,7 @@ pub struct ThumbInstruction {
 
 impl ThumbInstruction {
     // The record of the halfwords of a word.
+    #[tactic(auto, unfolding(crate::specs::Record::decoded))]
     fn of_halfwords(form: Form, raw: Halfwords, addr: Addr) -> Self
         ensures { result ≡ decoded form raw addr }
     {
@@ -348,7 +200,7 @@ impl ThumbInstruction {
     }
 }
 
-#[derive(Clone, Copy)]
+#[derive(Clone, Copy, Debug, PartialEq, Eq)]
 pub enum OpFormat3 {
     MOV,
     CMP,
@@ -356,13 +208,13 @@ pub enum OpFormat3 {
     SUB,
 }
 
-impl OpFormat3 {
-    // The case of a number, by its lowest two bits.
-    pub fn from_u32(n: u32) -> Self
-        ensures { result ≡ op_format3 n }
-    {
-        let k = n % 4;
-        match k {
+// The operation of a number, by its lowest two bits.
+#[tactic(auto, unfolding(crate::specs::Fields::op_format3))]
+impl From<u32> for OpFormat3 {
+    ghost from_gives = { λ n x. x ≡ op_format3 n };
+
+    fn from(n: u32) -> Self {
+        match n % 4 {
             0 => OpFormat3::MOV,
             1 => OpFormat3::CMP,
             2 => OpFormat3::ADD,
@@ -371,7 +223,7 @@ impl OpFormat3 {
     }
 }
 
-#[derive(Clone, Copy)]
+#[derive(Clone, Copy, Debug, PartialEq, Eq)]
 pub enum OpFormat5 {
     ADD,
     CMP,
@@ -379,13 +231,13 @@ pub enum OpFormat5 {
     BX,
 }
 
-impl OpFormat5 {
-    // The case of a number, by its lowest two bits.
-    pub fn from_u32(n: u32) -> Self
-        ensures { result ≡ op_format5 n }
-    {
-        let k = n % 4;
-        match k {
+// The operation of a number, by its lowest two bits.
+#[tactic(auto, unfolding(crate::specs::Fields::op_format5))]
+impl From<u32> for OpFormat5 {
+    ghost from_gives = { λ n x. x ≡ op_format5 n };
+
+    fn from(n: u32) -> Self {
+        match n % 4 {
             0 => OpFormat5::ADD,
             1 => OpFormat5::CMP,
             2 => OpFormat5::MOV,
@@ -394,7 +246,7 @@ impl OpFormat5 {
     }
 }
 
-#[derive(Clone, Copy)]
+#[derive(Clone, Copy, Debug, PartialEq, Eq)]
 pub enum ThumbAluOps {
     AND,
     EOR,
@@ -414,13 +266,13 @@ pub enum ThumbAluOps {
     MVN,
 }
 
-impl ThumbAluOps {
-    // The case of a number, by its lowest four bits.
-    pub fn from_u32(n: u32) -> Self
-        ensures { result ≡ thumb_alu_op n }
-    {
-        let k = n % 16;
-        match k {
+// The operation of a number, by its lowest four bits.
+#[tactic(auto, unfolding(crate::specs::Fields::thumb_alu_op))]
+impl From<u32> for ThumbAluOps {
+    ghost from_gives = { λ n x. x ≡ thumb_alu_op n };
+
+    fn from(n: u32) -> Self {
+        match n % 16 {
             0 => ThumbAluOps::AND,
             1 => ThumbAluOps::EOR,
             2 => ThumbAluOps::LSL,
@@ -439,32 +291,19 @@ impl ThumbAluOps {
             _ => ThumbAluOps::MVN,
         }
     }
+}
 
-    pub fn number(self) -> u32
-        ensures { result ≡ thumb_alu_number self }
-    {
-        match self {
-            ThumbAluOps::AND => 0,
-            ThumbAluOps::EOR => 1,
-            ThumbAluOps::LSL => 2,
-            ThumbAluOps::LSR => 3,
-            ThumbAluOps::ASR => 4,
-            ThumbAluOps::ADC => 5,
-            ThumbAluOps::SBC => 6,
-            ThumbAluOps::ROR => 7,
-            ThumbAluOps::TST => 8,
-            ThumbAluOps::NEG => 9,
-            ThumbAluOps::CMP => 10,
-            ThumbAluOps::CMN => 11,
-            ThumbAluOps::ORR => 12,
-            ThumbAluOps::MUL => 13,
-            ThumbAluOps::BIC => 14,
-            ThumbAluOps::MVN => 15,
-        }
+// An operation's number, in the order of the enum.
+impl From<ThumbAluOps> for u32 {
+    ghost from_gives = { λ x n. n ≡ thumb_alu_number x };
+
+    fn from(x: ThumbAluOps) -> u32 {
+        x as u32
     }
 }
 
-// Fields, under the Rust's names. A word of 16 bits is a number of 32 here.
+// Fields, under the Rust's names. Where it has two for the same bits, one function has both. A word of 16 bits is a number of 32 here.
+pub use crate::{ro as rn, rs as rb};
 
 pub fn rs(raw: u32) -> u32
     ensures { result ≡ bit_range raw 3 6 }
@@ -472,19 +311,7 @@ pub fn rs(raw: u32) -> u32
     bit_range(raw, 3, 6)
 }
 
-pub fn rb(raw: u32) -> u32
-    ensures { result ≡ bit_range raw 3 6 }
-{
-    bit_range(raw, 3, 6)
-}
-
 pub fn ro(raw: u32) -> u32
-    ensures { result ≡ bit_range raw 6 9 }
-{
-    bit_range(raw, 6, 9)
-}
-
-pub fn rn(raw: u32) -> u32
     ensures { result ≡ bit_range raw 6 9 }
 {
     bit_range(raw, 6, 9)
@@ -529,55 +356,56 @@ pub fn is_immediate_operand(raw: u32) -> bool
 pub fn format1_op(raw: u32) -> BarrelShiftOpCode
     ensures { result ≡ barrel_shift_op_code (bit_range raw 11 13) }
 {
-    BarrelShiftOpCode::from_u32(bit_range(raw, 11, 13))
+    BarrelShiftOpCode::from(bit_range(raw, 11, 13))
 }
 
 pub fn format3_op(raw: u32) -> OpFormat3
     ensures { result ≡ op_format3 (bit_range raw 11 13) }
 {
-    OpFormat3::from_u32(bit_range(raw, 11, 13))
+    OpFormat3::from(bit_range(raw, 11, 13))
 }
 
 pub fn format5_op(raw: u32) -> OpFormat5
     ensures { result ≡ op_format5 (bit_range raw 8 10) }
 {
-    OpFormat5::from_u32(bit_range(raw, 8, 10))
+    OpFormat5::from(bit_range(raw, 8, 10))
 }
 
 pub fn format4_alu_op(raw: u32) -> ThumbAluOps
     ensures { result ≡ thumb_alu_op (bit_range raw 6 10) }
 {
-    ThumbAluOps::from_u32(bit_range(raw, 6, 10))
+    ThumbAluOps::from(bit_range(raw, 6, 10))
 }
 
 pub fn cond(raw: u32) -> ArmCond
     ensures { result ≡ arm_cond (bit_range raw 8 12) }
 {
-    ArmCond::from_u32(bit_range(raw, 8, 12))
+    ArmCond::from(bit_range(raw, 8, 12))
 }
 
-// The sign-extended 8-bit field times two.
+// The sign-extended 8-bit field times two: its sign goes to the top, and the shift back keeps it.
 pub fn bcond_offset(raw: u32) -> i32
     ensures { result ≡ bcond_offset raw }
 {
-    signed_times(8, 2, bit_range(raw, 0, 8))
+    (raw << 24).cast_signed() >> 23
 }
 
 // The sign-extended 11-bit field times two.
 pub fn branch_offset(raw: u32) -> i32
     ensures { result ≡ branch_offset11 raw }
 {
-    signed_times(11, 2, offset11(raw))
+    (raw << 21).cast_signed() >> 20
 }
 
 // The sign-extended 11-bit field of a first call half times 4096.
 pub fn call_offset(raw: u32) -> i32
     ensures { result ≡ call_offset raw }
 {
-    signed_times(11, 4096, offset11(raw))
+    (raw << 21).cast_signed() >> 9
 }
 
 // Four times the lowest eight bits.
+#[tactic(auto, unfolding(crate::specs::Fields::word8))]
 pub fn word8(raw: u32) -> u32
     ensures { result ≡ word8 raw }
 {
@@ -585,49 +413,49 @@ pub fn word8(raw: u32) -> u32
 }
 
 // Four times the lowest seven bits, with bit 7 as the sign.
+#[tactic(auto, unfolding(crate::specs::Fields::sword7))]
 pub fn sword7(raw: u32) -> i32
     ensures { result ≡ sword7 raw }
 {
     let size = bit_range(raw, 0, 7) * 4;
     if bit(raw, 7) {
-        negative(size)
+        -(size as i32)
     } else {
         size as i32
     }
 }
 
-// Where a conditional branch at an address goes.
+// Where a conditional branch at an address goes. Like a branch, but for the field: both are one call of `move_by`.
 pub fn bcond_target(pc: Addr, raw: u32) -> Addr
     ensures { result ≡ bcond_target pc raw }
 {
-    let ahead = std::num::wrapping_add_u32(pc, 4);
-    move_by(ahead, bcond_offset(raw))
+    move_by(pc.wrapping_add(4), bcond_offset(raw))
 }
 
 // Where a branch at an address goes.
 pub fn branch_target(pc: Addr, raw: u32) -> Addr
     ensures { result ≡ branch_target pc raw }
 {
-    let ahead = std::num::wrapping_add_u32(pc, 4);
-    move_by(ahead, branch_offset(raw))
+    move_by(pc.wrapping_add(4), branch_offset(raw))
 }
 
 // Where a call pair at an address goes.
 pub fn pair_target(pc: Addr, first: u32, second: u32) -> Addr
     ensures { result ≡ pair_target pc first second }
 {
-    let behind = std::num::wrapping_add_u32(pc, 4);
+    let behind = pc.wrapping_add(4);
     let high = move_by(behind, call_offset(first));
-    std::num::wrapping_add_u32(high, offset11(second) * 2)
+    high.wrapping_add(offset11(second) * 2)
 }
 
 // The address that a load from pc reads.
+#[tactic(auto, unfolding(crate::specs::Fields::pc_load_address))]
 pub fn pc_load_address(pc: Addr, raw: u32) -> Addr
     ensures { result ≡ pc_load_address pc raw }
 {
-    let ahead = std::num::wrapping_add_u32(pc, 4);
+    let ahead = pc.wrapping_add(4);
     let aligned = ahead - ahead / 2 % 2 * 2;
-    std::num::wrapping_add_u32(aligned, word8(raw))
+    aligned.wrapping_add(word8(raw))
 }
 
 // The number that a lone call half prints: a first half's offset as 32 bits, or twice a second half's field.

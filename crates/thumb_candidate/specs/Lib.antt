@@ -1,2 +1,2 @@
 pub mod Candidate
-pub mod Regs
+pub mod Taken

@@ -7,10 +7,8 @@ ghost use Rattle.text.specs.Word.{after, has, word};
 ghost use Rattle.thumb_candidate.specs.Candidate.{block_in, call_unit, shift_in, signed, sp_in, transfer_unit};
 ghost use Rattle.reading.specs.Parts.{amount_field, flag, list_in, reg_in};
 
-use crate::parts::{bare, decimal};
 use arm7tdmi::Form;
-use reading::parts::{amount_field, as_flag, hexadecimal, register_list};
-use text::read::contains;
+use reading::parts::{amount_field, as_flag, hexadecimal, number, register_list};
 
 // Rd and Rs, or Rd and Rb.
 pub fn low(first: u8, second: u8) -> u64
@@ -26,36 +24,29 @@ pub fn three_low(first: u8, second: u8, third: u8) -> u64
     third as u64 * 64 + low(first, second)
 }
 
-// Rd and a quarter of the number.
-pub fn wide(first: u8, three: &[u8]) -> u64
-    ensures { (result ≡ first * 2 ^ 8 + value 16 (drop 2 (word three.now)) / 4 % 2 ^ 8) × (result < 2 ^ 17) }
-{
-    first as u64 * 256 + hexadecimal(three) / 4 % 256
-}
-
 // LSL, LSR and ASR, by their capitals.
 fn shift(line: &[u8]) -> u64
     ensures { (result ≡ shift_in line.now) × (result ≤ 2) }
 {
-    if contains(line, b'A') {
+    if line.contains(&b'A') {
         return 2;
     }
-    as_flag(contains(line, b'R'))
+    as_flag(line.contains(&b'R'))
 }
 
 // A shift by a number.
 pub fn shifted(line: &[u8], first: u8, second: u8, three: &[u8]) -> u64
     ensures { (result ≡ shift_in line.now * 2 ^ 11 + amount_field (value 10 (word three.now)) * 2 ^ 6 + (second * 2 ^ 3 + first)) × (result < 2 ^ 20) }
 {
-    shift(line) * 2048 + amount_field(decimal(three)) * 64 + low(first, second)
+    shift(line) * 2048 + amount_field(number::<10>(three)) * 64 + low(first, second)
 }
 
 // The last operand of add and sub: a number, which `#` says, or a register.
 fn last_of(line: &[u8], third: u8, three: &[u8]) -> u64
     ensures { (result ≡ cond (has 35 line.now) (2 ^ 10 + value 16 (word three.now) % 2 ^ 3 * 2 ^ 6) (third * 2 ^ 6)) × (result < 2 ^ 14) }
 {
-    if contains(line, b'#') {
-        return 1024 + bare(three) % 8 * 64;
+    if line.contains(&b'#') {
+        return 1024 + number::<16>(three) % 8 * 64;
     }
     third as u64 * 64
 }
@@ -67,11 +58,12 @@ pub fn add_sub(line: &[u8], first: u8, second: u8, third: u8, three: &[u8]) -> u
     last_of(line, third, three) + low(first, second)
 }
 
-// A register and a byte.
-pub fn with_byte(first: u8, two: &[u8]) -> u64
-    ensures { (result ≡ first * 2 ^ 8 + value 16 (drop 2 (word two.now)) % 2 ^ 8) × (result < 2 ^ 20) }
+// A register, and a byte of a number that is counted by a unit.
+pub fn with_byte<const UNIT: u64>(first: u8, l: &[u8]) -> u64
+    requires { 0 < UNIT }
+    ensures { (result ≡ first * 2 ^ 8 + value 16 (drop 2 (word l.now)) / UNIT % 2 ^ 8) × (result < 2 ^ 17) }
 {
-    first as u64 * 256 + hexadecimal(two) % 256
+    first as u64 * 256 + hexadecimal(l) / UNIT % 256
 }
 
 // High registers; bx, of the bits 0x4700, has a source alone.
@@ -85,35 +77,29 @@ pub fn high(b: u64, first: u8, second: u8) -> u64
     n / 8 * 128 + second as u64 * 8 + n % 8
 }
 
-// By how much a transfer's number is counted.
-fn transfer_unit(b: u64) -> u64
-    ensures { (result ≡ transfer_unit b) × (0 < result) }
+// A transfer with a number that is counted by a unit.
+pub fn with_unit<const UNIT: u64>(first: u8, second: u8, three: &[u8]) -> u64
+    requires { 0 < UNIT }
+    ensures { (result ≡ value 16 (drop 2 (word three.now)) / UNIT % 2 ^ 5 * 2 ^ 6 + (second * 2 ^ 3 + first)) × (result < 2 ^ 20) }
 {
-    if b / 0x1000 % 2 == 1 {
-        return 1;
-    }
-    4
+    hexadecimal(three) / UNIT % 32 * 64 + low(first, second)
 }
 
-// A transfer with a number.
+// A transfer with a number: of bytes (bit 12) or words.
 pub fn with_number(b: u64, first: u8, second: u8, three: &[u8]) -> u64
     ensures { (result ≡ value 16 (drop 2 (word three.now)) / transfer_unit b % 2 ^ 5 * 2 ^ 6 + (second * 2 ^ 3 + first)) × (result < 2 ^ 20) }
 {
-    hexadecimal(three) / transfer_unit(b) % 32 * 64 + low(first, second)
-}
-
-// The same of a halfword.
-pub fn with_half(first: u8, second: u8, three: &[u8]) -> u64
-    ensures { (result ≡ value 16 (drop 2 (word three.now)) / 2 % 2 ^ 5 * 2 ^ 6 + (second * 2 ^ 3 + first)) × (result < 2 ^ 20) }
-{
-    hexadecimal(three) / 2 % 32 * 64 + low(first, second)
+    if b / 0x1000 % 2 == 1 {
+        return with_unit::<1>(first, second, three);
+    }
+    with_unit::<4>(first, second, three)
 }
 
 // An address from pc or sp.
 pub fn address(first: u8, second: u8, three: &[u8]) -> u64
     ensures { (result ≡ flag (eqb second 13) * 2 ^ 11 + (first * 2 ^ 8 + value 16 (drop 2 (word three.now)) / 4 % 2 ^ 8)) × (result < 2 ^ 20) }
 {
-    as_flag(second == 13) * 2048 + wide(first, three)
+    as_flag(second == 13) * 2048 + with_byte::<4>(first, three)
 }
 
 // The number that sp is moved by, and its sign.
@@ -127,7 +113,7 @@ fn with_sign(minus: bool, n: u64) -> u64
 fn sp_bench(two: &[u8]) -> u64
     ensures { (result ≡ cond (ltb (value 16 (word two.now)) (2 ^ 31)) (signed false (value 16 (word two.now))) (signed true (2 ^ 32 - value 16 (word two.now)))) × (result < 2 ^ 20) }
 {
-    let n = bare(two);
+    let n = number::<16>(two);
     if n < 0x8000_0000 {
         return with_sign(false, n);
     }
@@ -138,7 +124,7 @@ fn sp_bench(two: &[u8]) -> u64
 fn sp_sheet(line: &[u8], two: &[u8]) -> u64
     ensures { (result ≡ signed (has 45 line.now) (value 16 (drop 2 (word two.now)))) × (result < 2 ^ 20) }
 {
-    let minus = contains(line, b'-');
+    let minus = line.contains(&b'-');
     with_sign(minus, hexadecimal(two))
 }
 

@@ -1,24 +1,22 @@
 // The candidate of a row.
-ghost use Rattle.std.specs.Prelude.{◌≡◌, List, ℕ, ◌<◌, ◌^◌};
+ghost use Rattle.std.specs.Prelude.{◌≡◌, ◌<◌, ◌^◌};
 ghost use Rattle.thumb_candidate.specs.Candidate.{candidate, operands, suits};
-ghost use Rattle.thumb_candidate.specs.Regs.{Named, Taken};
 
 use crate::fields::{
-    add_sub, address, block, call, high, low, offset, shifted, sp, stack, three_low, wide,
-    with_byte, with_half, with_number,
+    add_sub, address, block, call, high, low, offset, shifted, sp, stack, three_low, with_byte,
+    with_number, with_unit,
 };
-use crate::parts::Regs;
-use arm7tdmi::Form;
+use crate::parts::Sought;
 use reading::parts::hexadecimal;
 use thumb::ThumbFormat;
 use thumb_mnemonic::Row;
 
 // Whether a kind may have printed a line with its mnemonic, by the registers that words 2 and 3 name.
-pub fn suits(fmt: ThumbFormat, regs: Regs) -> bool
-    ensures { (l : List ℕ) → Named regs l → result ≡ suits fmt l }
+pub fn suits(fmt: ThumbFormat, sought: &Sought) -> bool
+    ensures { result ≡ suits fmt sought.now.line.now }
 {
-    let second = regs.second;
-    let third = regs.third;
+    let second = sought.second;
+    let third = sought.third;
     match fmt {
         ThumbFormat::MoveShiftedReg => true,
         ThumbFormat::AddSub => second < 8,
@@ -44,61 +42,44 @@ pub fn suits(fmt: ThumbFormat, regs: Regs) -> bool
 }
 
 // What the operands of a line fill in, of a kind and the bits b of its mnemonic.
-fn operands_of(
-    fmt: ThumbFormat,
-    b: u64,
-    form: Form,
-    pc: u32,
-    line: &[u8],
-    regs: Regs,
-    one: &[u8],
-    two: &[u8],
-    three: &[u8],
-) -> u64
-    ensures { (Taken regs one.now two.now three.now line.now → result ≡ operands fmt b form pc line.now) × (result < 2 ^ 20) }
+fn operands_of(fmt: ThumbFormat, b: u64, sought: &Sought) -> u64
+    ensures { (result ≡ operands fmt b sought.now.form sought.now.pc sought.now.line.now) × (result < 2 ^ 20) }
 {
-    let first = regs.first;
-    let second = regs.second;
-    let third = regs.third;
+    let line = sought.line;
+    let one = sought.one;
+    let two = sought.two;
+    let three = sought.three;
+    let first = sought.first;
+    let second = sought.second;
+    let third = sought.third;
     match fmt {
         ThumbFormat::MoveShiftedReg => shifted(line, first, second, three),
         ThumbFormat::AddSub => add_sub(line, first, second, third, three),
-        ThumbFormat::DataProcessImm => with_byte(first, two),
+        ThumbFormat::DataProcessImm => with_byte::<1>(first, two),
         ThumbFormat::AluOps => low(first, second),
         ThumbFormat::HiRegOpOrBranchExchange => high(b, first, second),
-        ThumbFormat::LdrPc => wide(first, three),
+        ThumbFormat::LdrPc => with_byte::<4>(first, three),
         ThumbFormat::LdrStrRegOffset => three_low(first, second, third),
         ThumbFormat::LdrStrSHB => three_low(first, second, third),
         ThumbFormat::LdrStrImmOffset => with_number(b, first, second, three),
-        ThumbFormat::LdrStrHalfWord => with_half(first, second, three),
-        ThumbFormat::LdrStrSp => wide(first, three),
+        ThumbFormat::LdrStrHalfWord => with_unit::<2>(first, second, three),
+        ThumbFormat::LdrStrSp => with_byte::<4>(first, three),
         ThumbFormat::LoadAddress => address(first, second, three),
-        ThumbFormat::AddSp => sp(form, line, two),
+        ThumbFormat::AddSp => sp(sought.form, line, two),
         ThumbFormat::PushPop => stack(one),
-        ThumbFormat::LdmStm => block(form, first, two),
-        ThumbFormat::BranchConditional => offset(pc, one) % 256,
+        ThumbFormat::LdmStm => block(sought.form, first, two),
+        ThumbFormat::BranchConditional => offset(sought.pc, one) % 256,
         ThumbFormat::Swi => hexadecimal(one) % 256,
-        ThumbFormat::Branch => offset(pc, one) % 2048,
+        ThumbFormat::Branch => offset(sought.pc, one) % 2048,
         ThumbFormat::BranchLongWithLink => call(b, one),
         ThumbFormat::Undefined => 0,
     }
 }
 
 // The candidate of a row.
-pub fn candidate_of(
-    form: Form,
-    pc: u32,
-    row: Row,
-    line: &[u8],
-    regs: Regs,
-    one: &[u8],
-    two: &[u8],
-    three: &[u8],
-) -> u16
-    ensures { Taken regs one.now two.now three.now line.now → result ≡ candidate form pc line.now row.kind row.bits }
+pub fn candidate_of(row: Row, sought: &Sought) -> u16
+    ensures { result ≡ candidate sought.now.form sought.now.pc sought.now.line.now row.kind row.bits }
 {
-    let b = row.bits;
-    let fmt = row.kind;
-    let n = operands_of(fmt, b as u64, form, pc, line, regs, one, two, three);
-    ((b as u64 + n) % 0x1_0000) as u16
+    let b = row.bits as u64;
+    ((b + operands_of(row.kind, b, sought)) % 0x1_0000) as u16
 }

@@ -1,37 +1,43 @@
-// What the words of a line name. Each function takes the line from its word on.
-ghost use Rattle.std.specs.Prelude.{◌≡◌, ◌<◌, ◌^◌};
-ghost use Rattle.arm7tdmi.specs.Names.{reg_named};
-ghost use Rattle.text.specs.Digits.{value};
-ghost use Rattle.text.specs.Word.{word};
+// What is taken from a line once, for all its candidates.
+ghost use Rattle.std.specs.Prelude.{◌≡◌};
+ghost use Rattle.thumb_candidate.specs.Taken.{Taken};
 
-use arm7tdmi::read_reg;
-use text::read::{first_word, read_dec, read_hex};
+use arm7tdmi::Form;
+use reading::parts::register;
+use text::read::next_word;
 
-// The registers that words 1, 2 and 3 of a line name, or 16.
+// What is looked for: a line, in a form, at an address; the line from its words 1, 2 and 3 on, and the registers that these name, or 16.
 #[derive(Clone, Copy)]
-pub struct Regs {
+pub struct Sought<'a> {
+    pub form: Form,
+    pub pc: u32,
+    pub line: &'a [u8],
+    pub one: &'a [u8],
+    pub two: &'a [u8],
+    pub three: &'a [u8],
     pub first: u8,
     pub second: u8,
     pub third: u8,
+    ghost taken: { Taken line.now one.now two.now three.now first second third },
 }
 
-// The register that the first word names, or 16.
-pub fn register(l: &[u8]) -> u8
-    ensures { result ≡ reg_named (word l.now) }
-{
-    read_reg(first_word(l)) as u8
-}
-
-// The number that the first word writes in decimal.
-pub fn decimal(l: &[u8]) -> u64
-    ensures { (result ≡ value 10 (word l.now)) × (result < 2 ^ 32) }
-{
-    read_dec(first_word(l)) as u64
-}
-
-// The number that it writes in hexadecimal.
-pub fn bare(l: &[u8]) -> u64
-    ensures { (result ≡ value 16 (word l.now)) × (result < 2 ^ 32) }
-{
-    read_hex(first_word(l)) as u64
+impl<'a> Sought<'a> {
+    pub fn new(form: Form, pc: u32, line: &'a [u8]) -> Self
+        ensures { (result.form ≡ form) × (result.pc ≡ pc) × (result.line.now ≡ line.now) }
+    {
+        let one = next_word(line);
+        let two = next_word(one);
+        let three = next_word(two);
+        Sought {
+            form,
+            pc,
+            line,
+            one,
+            two,
+            three,
+            first: register(one),
+            second: register(two),
+            third: register(three),
+        }
+    }
 }

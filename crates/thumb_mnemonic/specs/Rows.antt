@@ -1,5 +1,5 @@
 -- The mnemonics of Thumb lines. The reader's plan; nothing of the promise rests on it. Assumes nothing.
-use Rattle.std.specs.Prelude.{◌+◌, ℕ, ltb, drop, get_or, cond, List, [], ◌∷◌, map}
+use Rattle.std.specs.Prelude.{◌+◌, ℕ, ltb, drop, get_or, cond, List, [], ◌∷◌, map, Option, Some, None}
 use Rattle.thumb.specs.declared.ThumbFormat.{ThumbFormat}
 use Rattle.thumb.specs.declared.ThumbFormat.TheVariants as H
 use Rattle.common.specs.Lists.{find}
@@ -102,3 +102,7 @@ codes = map (λ (r : Row). packed r.name) rows
 
 abbrev pub next_row : ℕ → ℕ
 next_row i = cond (ltb i 70) (i + 1 + find (get_or codes i 0) (drop (i + 1) codes)) 70
+
+-- a row's place as the code has it: none past the last row
+abbrev pub found_row : ℕ → Option ℕ
+found_row i = cond (ltb i 70) (Some i) None

@@ -1,14 +1,14 @@
 // Operands of Thumb lines that are more than a field.
-#![tactic(auto)]
+#![tactic(auto, using(text::proofs::Puts::written), unfolding(crate::specs::Operand::high_dst, crate::specs::Operand::dst_reg, crate::specs::Operand::src_reg, crate::specs::Operand::imm_offset, crate::specs::Operand::sp_size, crate::specs::Operand::sp_bits, crate::specs::Operand::dst_and_src, crate::specs::Operand::high_operands, crate::specs::Operand::add_sub_operand, crate::specs::Operand::sheet_sp_offset, crate::specs::Operand::sp_offset, crate::specs::Operand::link_name, crate::specs::Operand::link_text, crate::specs::Operand::base_text))]
 
 ghost use Rattle.std.specs.Prelude.{◌≡◌};
-ghost use Rattle.text.specs.Wrote.{Wrote};
+ghost use Rattle.text.specs.Puts.{puts};
 ghost use Rattle.thumb_operand.specs.Operand.{high_dst, dst_reg, src_reg, dst_and_src, high_operands, imm_offset, add_sub_operand, sp_size, sp_bits, sheet_sp_offset, sp_offset, link_name, link_text, base_text};
 
 use arm7tdmi::bit::{bit, bit_range};
 use arm7tdmi::{Form, put_reg};
 use lines::{put_either, put_mark, put_reg_at};
-use text::put::{put_0x, put_byte, put_hex, put_text};
+use text::put::Writer;
 use thumb::{OpFormat5, is_immediate_operand, offset5, register_list, rs};
 
 // S5: with bit 7 set, the sheet adds 8 to bits 2-0, the bench takes bits 3-0.
@@ -39,25 +39,25 @@ fn src_reg(raw: u32) -> u32
     rs(raw)
 }
 
-fn put_dst_and_src(buf: &mut [u8], at: usize, form: Form, raw: u32) -> usize
-    ensures { Wrote buf.old at (dst_and_src form raw) buf.new result }
+fn put_dst_and_src(out: &mut Writer<'_>, form: Form, raw: u32)
+    ensures { out.new ≡ puts out.old (dst_and_src form raw) }
 {
     let dst = dst_reg(form, raw);
     let src = src_reg(raw);
-    let at = put_reg(buf, at, dst);
-    let at = put_text(buf, at, b", ");
-    put_reg(buf, at, src)
+    put_reg(out, dst);
+    out.put_text(b", ");
+    put_reg(out, src);
 }
 
 // bx has no destination.
-pub fn put_high_operands(buf: &mut [u8], at: usize, form: Form, raw: u32, op: OpFormat5) -> usize
-    ensures { Wrote buf.old at (high_operands form raw op) buf.new result }
+pub fn put_high_operands(out: &mut Writer<'_>, form: Form, raw: u32, op: OpFormat5)
+    ensures { out.new ≡ puts out.old (high_operands form raw op) }
 {
     match op {
-        OpFormat5::ADD => put_dst_and_src(buf, at, form, raw),
-        OpFormat5::CMP => put_dst_and_src(buf, at, form, raw),
-        OpFormat5::MOV => put_dst_and_src(buf, at, form, raw),
-        OpFormat5::BX => put_reg(buf, at, src_reg(raw)),
+        OpFormat5::ADD => put_dst_and_src(out, form, raw),
+        OpFormat5::CMP => put_dst_and_src(out, form, raw),
+        OpFormat5::MOV => put_dst_and_src(out, form, raw),
+        OpFormat5::BX => put_reg(out, src_reg(raw)),
     }
 }
 
@@ -72,15 +72,15 @@ pub fn imm_offset(raw: u32) -> u32
 }
 
 // A bare hexadecimal number, or a register.
-pub fn put_add_sub_operand(buf: &mut [u8], at: usize, raw: u32) -> usize
-    ensures { Wrote buf.old at (add_sub_operand raw) buf.new result }
+pub fn put_add_sub_operand(out: &mut Writer<'_>, raw: u32)
+    ensures { out.new ≡ puts out.old (add_sub_operand raw) }
 {
     if is_immediate_operand(raw) {
-        let value = bit_range(raw, 6, 9);
-        let at = put_byte(buf, at, b'#');
-        return put_hex(buf, at, 1, value);
+        out.put_byte(b'#');
+        out.put_hex(1, bit_range(raw, 6, 9));
+    } else {
+        put_reg_at(out, raw, 6, 9);
     }
-    put_reg_at(buf, at, raw, 6, 9)
 }
 
 fn sp_size(raw: u32) -> u32
@@ -95,55 +95,53 @@ fn sp_bits(raw: u32) -> u32
 {
     let size = sp_size(raw);
     if bit(raw, 7) {
-        return std::num::wrapping_sub_u32(0, size);
+        return size.wrapping_neg();
     }
     size
 }
 
-fn put_sheet_sp_offset(buf: &mut [u8], at: usize, raw: u32) -> usize
-    ensures { Wrote buf.old at (sheet_sp_offset raw) buf.new result }
+fn put_sheet_sp_offset(out: &mut Writer<'_>, raw: u32)
+    ensures { out.new ≡ puts out.old (sheet_sp_offset raw) }
 {
     let size = sp_size(raw);
-    let at = put_mark(buf, at, raw, 7, b'-');
-    put_0x(buf, at, 1, size)
+    put_mark(out, raw, 7, b'-');
+    out.put_0x(1, size);
 }
 
 // S8: the sheet has a sign and `0x`, the bench bare digits.
-pub fn put_sp_offset(buf: &mut [u8], at: usize, form: Form, raw: u32) -> usize
-    ensures { Wrote buf.old at (sp_offset form raw) buf.new result }
+pub fn put_sp_offset(out: &mut Writer<'_>, form: Form, raw: u32)
+    ensures { out.new ≡ puts out.old (sp_offset form raw) }
 {
     match form {
-        Form::Bench => put_hex(buf, at, 1, sp_bits(raw)),
-        Form::Sheet => put_sheet_sp_offset(buf, at, raw),
+        Form::Bench => out.put_hex(1, sp_bits(raw)),
+        Form::Sheet => put_sheet_sp_offset(out, raw),
     }
 }
 
-fn put_link_name(buf: &mut [u8], at: usize, raw: u32) -> usize
-    ensures { Wrote buf.old at (link_name raw) buf.new result }
+fn put_link_name(out: &mut Writer<'_>, raw: u32)
+    ensures { out.new ≡ puts out.old (link_name raw) }
 {
-    put_either(buf, at, raw, 11, b"pc", b"lr")
+    put_either(out, raw, 11, b"pc", b"lr");
 }
 
 // lr or pc behind the list, with a comma before it where the list has a register.
-pub fn put_link(buf: &mut [u8], at: usize, raw: u32) -> usize
-    ensures { Wrote buf.old at (link_text raw) buf.new result }
+pub fn put_link(out: &mut Writer<'_>, raw: u32)
+    ensures { out.new ≡ puts out.old (link_text raw) }
 {
     if bit(raw, 8) {
-        if register_list(raw) == 0 {
-            return put_link_name(buf, at, raw);
+        if register_list(raw) != 0 {
+            out.put_text(b", ");
         }
-        let at = put_text(buf, at, b", ");
-        return put_link_name(buf, at, raw);
+        put_link_name(out, raw);
     }
-    at
 }
 
 // S6: the sheet takes the base from bits 10-8, the bench from 5-3.
-pub fn put_base(buf: &mut [u8], at: usize, form: Form, raw: u32) -> usize
-    ensures { Wrote buf.old at (base_text form raw) buf.new result }
+pub fn put_base(out: &mut Writer<'_>, form: Form, raw: u32)
+    ensures { out.new ≡ puts out.old (base_text form raw) }
 {
     match form {
-        Form::Bench => put_reg_at(buf, at, raw, 3, 6),
-        Form::Sheet => put_reg_at(buf, at, raw, 8, 11),
+        Form::Bench => put_reg_at(out, raw, 3, 6),
+        Form::Sheet => put_reg_at(out, raw, 8, 11),
     }
 }

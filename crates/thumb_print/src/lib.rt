@@ -2,35 +2,43 @@
 #![tactic(auto)]
 
 ghost use Rattle.std.specs.Prelude.{◌≡◌};
-ghost use Rattle.lines.specs.Answer.{line, printed};
+ghost use Rattle.lines.specs.Answer.{printed};
 ghost use Rattle.thumb_disass.specs.Line.{line_of};
+ghost use Rattle.thumb_disass.proofs.Lengths.{line_within};
 ghost use Rattle.thumb_print.specs.Print.{thumb_line};
 
 use arm7tdmi::Form;
-use lines::{Printed, give_line};
+use lines::{Line, print_line};
+use refusal::Refusal;
+use text::put::Writer;
 use thumb::{ThumbFormat, thumb_format};
 use thumb_disass::put_line;
 
-// The line of a word of a kind. A buffer with room for any line takes it straight; a shorter one gets it from a copy, if it fits.
-fn print_line(form: Form, fmt: ThumbFormat, raw: u32, pc: u32, buf: &mut [u8]) -> Printed
-    ensures { printed (line (line_of form fmt pc raw)) buf.old ≡ (result, buf.new) }
-{
-    if 80 <= buf.len() {
-        let n = put_line(buf, form, fmt, pc, raw);
-        return Printed {
-            number: 0,
-            length: n,
-        };
-    }
-    let mut scratch = [0u8; 80];
-    let n = put_line(&mut scratch, form, fmt, pc, raw);
-    give_line(buf, &scratch[..n])
+// The line of a word of a kind at an address, as `arm_print` has one of ARM's.
+#[derive(Clone, Copy)]
+struct ThumbLine {
+    form: Form,
+    fmt: ThumbFormat,
+    pc: u32,
+    raw: u32,
 }
 
-// Prints the line of a word at an address into a buffer.
-pub fn print_thumb(form: Form, raw: u16, pc: u32, buf: &mut [u8]) -> Printed
+impl Line for ThumbLine {
+    ghost shown = { λ w. line_of w.form w.fmt w.pc w.raw };
+
+    fn put(&self, out: &mut Writer<'_>) {
+        put_line(out, self.form, self.fmt, self.pc, self.raw);
+    }
+
+    ghost short = { λ w. (line_within w.form w.fmt w.pc w.raw).most };
+}
+
+// Prints the line of a word at an address into a buffer: its length.
+#[tactic(auto, unfolding(crate::specs::Print::thumb_line))]
+pub fn print_thumb(form: Form, raw: u16, pc: u32, buf: &mut [u8]) -> Result<usize, Refusal>
     ensures { printed (thumb_line form pc raw) buf.old ≡ (result, buf.new) }
 {
     let fmt = thumb_format(form, raw);
-    print_line(form, fmt, raw as u32, pc, buf)
+    let raw = u32::from(raw);
+    print_line(&ThumbLine { form, fmt, pc, raw }, buf)
 }

@@ -1,12 +1,12 @@
 -- A turn of the loop over the rows of a mnemonic. Assumes nothing.
 use Prim.Native.Nat.{◌+◌, ◌-◌, ◌<◌, ◌^◌, ◌≤◌, min, suc, zero, ℕ}
-use borrow.Author.Tests.{eq-eqb, eqb-false, eqb-true, lt-ltb, ne_eqb}
-use lib.Dec.{eqb}
+use borrow.Author.Tests.{eq-eqb, eqb-false, eqb-true, lt-ltb, ltb-false, ltb-true, ne_eqb}
+use lib.Dec.{eqb, ltb}
 use lib.ListN.{drop, drop_of_length-le, get_or, length, take}
 use lib.Seq.{drop-cons}
 use mathlib.Core.Bool.{cond, true}
 use mathlib.Core.List.{List, [], ◌∷◌}
-use mathlib.Core.Path.{◌∙◌, ◌≡◌, refl, sym}
+use mathlib.Core.Path.{◌∙◌, ◌≡◌, ap, refl, sym}
 use native.Mathlib.Nat.{add-zero, zero-add}
 use native.Mathlib.Numerals.{add-one}
 use native.Mathlib.Omega.{arith}
@@ -18,7 +18,10 @@ use Rattle.text.proofs.Packed.{Bytes}
 use Rattle.text.specs.Word.{is_gap, packed, word}
 use Rattle.thumb_print.specs.Print.{thumb_line}
 use Rattle.thumb_lowest.proofs.Steps.{candidate_at, from_fails, from_first, from_other, from_prints, from_unsuited, read_from, row_number}
-use Rattle.thumb_mnemonic.specs.Rows.{codes, next_row, row_at, rows}
+use Rattle.std.specs.Prelude.{IfSome, None, Option, Some, unwrap_or}
+use Rattle.reading.specs.Answered.{word_below}
+use Rattle.thumb_read.specs.Answer.{low}
+use Rattle.thumb_mnemonic.specs.Rows.{codes, found_row, next_row, row_at, rows}
 use Rattle.thumb_candidate.specs.Candidate.{suits}
 use Rattle.thumb_lowest.specs.Read.{read_thumb}
 use Rattle.thumb_read.proofs.Printing.{read_le}
@@ -93,3 +96,28 @@ module _ (form : Form) (pc : ℕ) (l : List ℕ) (h : Bytes l) (n : ℕ) (e : n 
 
 pub before_all : (form : Form) (pc : ℕ) (l : List ℕ) → read_thumb form pc l ≡ min (2 ^ 16) (read_from form pc l 0)
 before_all form pc l = let e = from_first form pc l in let m = read_le form pc l in omega arith
+
+-- ---- a row's place as the code has it
+pub some_row : (j i : ℕ) → found_row j ≡ Some i → (j < 70) × (j ≡ i)
+some_row j i e =
+    by_test (ltb j 70)
+    (λ t. (ltb-true _ _ t, ap (λ (o : Option ℕ). unwrap_or o 0) (rw t at e)))
+    (λ t. let z : 71 ≡ unwrap_or (Some i) 71 = ap (λ (o : Option ℕ). unwrap_or o 71) (rw t at e) in let y : 72 ≡ unwrap_or (Some i) 72 = ap (λ (o : Option ℕ). unwrap_or o 72) (rw t at e) in absurd (omega arith))
+
+pub none_row : (j : ℕ) → found_row j ≡ None → 70 ≤ j
+none_row j e =
+    by_test (ltb j 70)
+    (λ t. let z : j ≡ 70 = ap (λ (o : Option ℕ). unwrap_or o 70) (rw t at e) in let h = ltb-true _ _ t in absurd (omega arith))
+    (λ t. ltb-false _ _ t)
+
+pub row_place : (j : ℕ) → j ≤ 70 → unwrap_or (found_row j) 70 ≡ j
+row_place j h = by_test (ltb j 70) (λ t. rw t) (λ t. let g = ltb-false _ _ t in rw t (omega arith))
+
+-- ---- a word or none
+pub low_most : (o : Option ℕ) → IfSome o (λ w. w < 2 ^ 16) → low o ≤ 2 ^ 16
+low_most None h = omega arith
+low_most (Some w) h = omega (h, arith)
+
+pub low_answers : (o : Option ℕ) → IfSome o (λ w. w < 2 ^ 16) → o ≡ word_below (2 ^ 16) (low o)
+low_answers None h = refl
+low_answers (Some w) h = rw (lt-ltb w (2 ^ 16) h)

@@ -14,7 +14,7 @@ use Rattle.arm7tdmi.specs.Kinds.{first_match}
 use Rattle.thumb.specs.Kinds.{thumb_format, thumb_number, thumb_rows}
 use Rattle.arm7tdmi.specs.declared.Form.{Form}
 use Rattle.arm7tdmi.specs.declared.Form.TheVariants.{Bench, Sheet}
-use Rattle.thumb.specs.declared.ThumbRow.{ThumbRow}
+use Rattle.arm7tdmi.specs.declared.kinds.Row.{Row}
 use Rattle.thumb.specs.declared.ThumbFormat.{ThumbFormat}
 use Rattle.thumb.specs.declared.ThumbFormat.TheVariants as H
 use Rattle.common.proofs.Tests.{and_left, and_right, at, every}
@@ -44,7 +44,7 @@ module _ {R K : Type 0} (mask value : R → ℕ) (kind : R → K) (other : K) (s
 
 pub thumb_top : (form : Form) (w : ℕ) → thumb_format form w ≡ thumb_format form (w / 2 ^ 8 * 2 ^ 8)
 unfolding thumb_rows
-thumb_top form w = first_high (λ (r : ThumbRow). r.mask) (λ (r : ThumbRow). r.value) (λ (r : ThumbRow). r.kind) H.Undefined 8 (thumb_rows form) w (omega arith)
+thumb_top form w = first_high (λ (r : Row ThumbFormat). r.mask) (λ (r : Row ThumbFormat). r.value) (λ (r : Row ThumbFormat). r.kind) H.Undefined 8 (thumb_rows form) w (omega arith)
 
 -- what is tested of all top bytes holds of each word's
 pub at_top : (f : ℕ → Bool) → every f 256 ≡ true → (w : ℕ) → w < 2 ^ 16 → f (w / 2 ^ 8) ≡ true

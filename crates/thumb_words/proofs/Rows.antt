@@ -10,7 +10,8 @@ use native.Mathlib.Omega.{arith}
 use Rattle.thumb.specs.Kinds.{thumb_first, thumb_format, thumb_number, thumb_rows}
 use Rattle.arm7tdmi.specs.declared.Form.{Form}
 use Rattle.arm7tdmi.specs.declared.Form.TheVariants.{Bench, Sheet}
-use Rattle.thumb.specs.declared.ThumbRow.{ThumbRow}
+use Rattle.arm7tdmi.specs.declared.kinds.Row.{Row}
+use Rattle.thumb.specs.declared.ThumbFormat.{ThumbFormat}
 use Rattle.thumb.specs.declared.ThumbFormat.TheVariants as H
 use Rattle.common.proofs.Tests.{at_not, by_test, every}
 use Rattle.thumb_words.proofs.Laws.{at_top, equal, equal_is, first_high, same_kind, thumb_top}
@@ -66,7 +67,7 @@ unfolding thumb_rows
 undefined_lowest form = refl
 
 -- ---- the bench's rows without that for DExx, which the Rust does not have
-unfoldable pub rust_rows : List ThumbRow
+unfoldable pub rust_rows : List (Row ThumbFormat)
 rust_rows = take 16 (thumb_rows Bench) ++ drop 17 (thumb_rows Bench)
 
 same_top : ℕ → Bool
@@ -78,7 +79,7 @@ same_tops = refl
 
 rust_top : (w : ℕ) → thumb_first rust_rows w ≡ thumb_first rust_rows (w / 2 ^ 8 * 2 ^ 8)
 unfolding rust_rows thumb_rows
-rust_top w = first_high (λ (r : ThumbRow). r.mask) (λ (r : ThumbRow). r.value) (λ (r : ThumbRow). r.kind) H.Undefined 8 rust_rows w (omega arith)
+rust_top w = first_high (λ (r : Row ThumbFormat). r.mask) (λ (r : Row ThumbFormat). r.value) (λ (r : Row ThumbFormat). r.kind) H.Undefined 8 rust_rows w (omega arith)
 
 -- a bench word's kind is that by the Rust's rows
 pub bench_rust : (w : ℕ) → w < 2 ^ 16 → thumb_first rust_rows w ≡ thumb_format Bench w

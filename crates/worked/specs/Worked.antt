@@ -3,6 +3,8 @@
 use Rattle.std.specs.Prelude.{List, [], ◌∷◌, ℕ}
 use Prim.Native.String.{String}
 use Rattle.text.specs.Text.{text}
+use Rattle.refusal.specs.declared.Refusal.{Refusal}
+use Rattle.refusal.specs.declared.Refusal.TheVariants.{NoCondition, NoTransfer}
 use Rattle.lines.specs.Answer.{Answer, refused, line}
 use Rattle.arm7tdmi.specs.declared.Form.{Form}
 use Rattle.arm7tdmi.specs.declared.Form.TheVariants.{Bench, Sheet}
@@ -50,8 +52,8 @@ row i b s = apart i b i s
 abbrev shows : String → Output
 shows s = printed (line (text s))
 
-abbrev refuses : ℕ → Output
-refuses n = printed (refused n)
+abbrev refuses : Refusal → Output
+refuses r = printed (refused r)
 
 -- "The set is ARM where the row names none, and the address is 0 where it names none."
 abbrev pub table : List Row
@@ -61,9 +63,9 @@ table =
     ∷ row (arm 0xE7910002 0) (shows "<Undefined>") (shows "ldr\tr0, [r1, r2]")
     ∷ row (arm 0xE59F0004 0x100) (shows "ldr\tr0, [pc, #4]\t; 0x10c") (shows "ldr\tr0, [pc, #4]\t; 0x0000010c")
     ∷ row (arm 0xEAFFFFFE 0x100) (shows "b\t0x100") (shows "b\t0x00000100")
-    ∷ row (arm 0xF12FFF10 0) (shows "bx\tr0") (refuses 1)
-    ∷ row (arm 0xE1800090 0) (refuses 2) (refuses 2)
-    ∷ row (arm 0xF1800090 0) (refuses 1) (refuses 1)
+    ∷ row (arm 0xF12FFF10 0) (shows "bx\tr0") (refuses NoCondition)
+    ∷ row (arm 0xE1800090 0) (refuses NoTransfer) (refuses NoTransfer)
+    ∷ row (arm 0xF1800090 0) (refuses NoCondition) (refuses NoCondition)
     ∷ row (arm 0xE1A01022 0) (shows "mov\tr0, r2, lsr #0") (shows "mov\tr1, r2, lsr #32")
     ∷ row (arm 0xE1A01062 0) (shows "mov\tr0, r2, ror #0") (shows "mov\tr1, r2, rrx")
     ∷ row (thumb 0x0808 0) (shows "LSR\tr0, r1, #0") (shows "LSR\tr0, r1, #32")

@@ -1,5 +1,8 @@
 -- The patches of the table are what the definitions give. Assumes nothing.
-use Rattle.std.proofs.Common.{◌≡◌, ℕ, ◌^◌, ◌<◌, cond, eqb, ltb, List, [], ◌∷◌, map, refl, ◌∙◌, arith}
+use Rattle.std.proofs.Common.{◌≡◌, ℕ, ◌^◌, ◌<◌, cond, ltb, List, [], ◌∷◌, map, refl, ◌∙◌, arith, Result, Ok, Err}
+use Rattle.std.specs.Prelude.{⊤}
+use Rattle.refusal.specs.declared.Refusal.{Refusal}
+use Rattle.refusal.specs.declared.Refusal.TheVariants.{NoWord}
 use Rattle.common.specs.Lists.{first, same}
 use Rattle.text.specs.Digits.{digit_value, digits, hex, prefixed, value_from}
 use Rattle.text.specs.Word as Words
@@ -40,7 +43,7 @@ use Rattle.image.specs.Refusal.{refusal, refusal_at, wrong_pairs}
 use Rattle.image.specs.Stretches.{pairs, pairs_from, set_at}
 use Rattle.image.specs.declared.Set.{Set}
 use Rattle.steps.specs.Steps.{call_pair, span_in, span_line, steps, steps_for}
-use Rattle.patch.specs.Patch.{patched, patched_in, patch_refusal, read_in, stored, with_number, words_of}
+use Rattle.patch.specs.Patch.{patched, patched_in, patched_unless, patch_refusal, read_in, stored, with_number, words_of}
 use Rattle.worked_listing.specs.Patches.{Row, given_row, row_of, table}
 
 -- what a line reads as, with the reader's law in place of the lowest word
@@ -54,12 +57,11 @@ read_law Set.Arm p l h = read_arm_lem Sheet p h l
 read_law (Set.Thumb e) p l h = read_thumb_lem Sheet p l
 
 -- what a patch gives, likewise
-abbrev stored_by : List ℕ → Set → ℕ → ℕ → ℕ × List ℕ
-stored_by image s at w = cond (ltb w (words_of s)) (0, stored image s at w) (4, image)
+abbrev stored_by : List ℕ → Set → ℕ → ℕ → Result ⊤ Refusal × List ℕ
+stored_by image s at w = cond (ltb w (words_of s)) (Ok tt, stored image s at w) (Err NoWord, image)
 
-abbrev by_law : List ℕ → List ℕ → ℕ → ℕ → List ℕ → ℕ × List ℕ
-by_law image list base at l =
-    cond (eqb (patch_refusal image list at) 0) (stored_by image (set_at (pairs list) at) at (read_by_law (set_at (pairs list) at) (moved base at) l)) (patch_refusal image list at, image)
+abbrev by_law : List ℕ → List ℕ → ℕ → ℕ → List ℕ → Result ⊤ Refusal × List ℕ
+by_law image list base at l = patched_unless (patch_refusal image list at) (stored_by image (set_at (pairs list) at) at (read_by_law (set_at (pairs list) at) (moved base at) l)) image
 
 law : (image list : List ℕ) (base at : ℕ) (l : List ℕ) → patched image list base at l ≡ by_law image list base at l
 unfolding patched patched_in

@@ -1,18 +1,20 @@
 -- Listings of images, from the start and resumed, as document 02 (v) and (vi) have them. Assumes nothing.
-use Rattle.std.specs.Prelude.{ℕ, ◌/◌, ◌%◌, ◌^◌, List, [], ◌∷◌, ◌++◌}
+use Rattle.std.specs.Prelude.{ℕ, ◌/◌, ◌%◌, ◌^◌, List, [], ◌∷◌, ◌++◌, Result, Ok, Err, ⊤}
 use Prim.Native.String.{String}
 use Rattle.text.specs.Text.{text}
+use Rattle.refusal.specs.declared.Refusal.{Refusal}
+use Rattle.refusal.specs.declared.Refusal.TheVariants.{NoCondition, NoTransfer, WrongImage, WrongStretches, WrongPlace}
 use Rattle.lines.specs.Answer.{refused, line}
 use Rattle.image.specs.Refusal.{refusal_at}
 use Rattle.steps.specs.Steps.{Step, steps}
 
--- an image with the list of its stretches and its base; the offset that its listing begins at; which refusal it gets, or 0; and its steps
+-- an image with the list of its stretches and its base; the offset that its listing begins at; whether it is refused; and its steps
 pub record Row : Type 0 where
   pub image : List ℕ
   pub list : List ℕ
   pub base : ℕ
   pub from : ℕ
-  pub number : ℕ
+  pub checked : Result ⊤ Refusal
   pub shows : List Step
 
 -- the row of what the definitions give
@@ -23,7 +25,7 @@ given_row r =
       list = r.list;
       base = r.base;
       from = r.from;
-      number = refusal_at r.image r.list r.from;
+      checked = refusal_at r.image r.list r.from;
       shows = steps r.image r.list r.base r.from;
     }
 
@@ -40,11 +42,11 @@ stretch offset bytes = word offset ++ word bytes
 abbrev pub prints : ℕ → ℕ → String → Step
 prints offset bytes s = record { offset = offset; bytes = bytes; shows = line (text s) }
 
-abbrev refuses : ℕ → ℕ → ℕ → Step
-refuses offset bytes n = record { offset = offset; bytes = bytes; shows = refused n }
+abbrev refuses : ℕ → ℕ → Refusal → Step
+refuses offset bytes r = record { offset = offset; bytes = bytes; shows = refused r }
 
 abbrev resumes : ℕ → List ℕ → List ℕ → ℕ → List Step → Row
-resumes from image list base shows = record { image = image; list = list; base = base; from = from; number = 0; shows = shows }
+resumes from image list base shows = record { image = image; list = list; base = base; from = from; checked = Ok tt; shows = shows }
 
 abbrev lists : List ℕ → List ℕ → ℕ → List Step → Row
 lists image list base shows = resumes 0 image list base shows
@@ -65,7 +67,7 @@ table =
     ∷ lists (half 0xF000 ++ half 0xF000 ++ half 0xF800 ++ half 0x4770) (stretch 0 8) 0 (prints 0 2 "bl\t#0x00000000" ∷ prints 2 4 "bl\t0x00000006" ∷ prints 6 2 "bx\tlr" ∷ [])
     ∷ lists (half 0xF000 ++ half 0xF800 ++ half 0xF800 ++ half 0x4770) (stretch 0 8) 0 (prints 0 4 "bl\t0x00000004" ∷ prints 4 2 "bl\t#0x00000000" ∷ prints 6 2 "bx\tlr" ∷ [])
     -- words that are refused, and addresses past the last one
-    ∷ lists (word 0xF12FFF10 ++ word 0xE1800090 ++ word 0xEAFFFFFE) [] 0 (refuses 0 4 1 ∷ refuses 4 4 2 ∷ prints 8 4 "b\t0x00000008" ∷ [])
+    ∷ lists (word 0xF12FFF10 ++ word 0xE1800090 ++ word 0xEAFFFFFE) [] 0 (refuses 0 4 NoCondition ∷ refuses 4 4 NoTransfer ∷ prints 8 4 "b\t0x00000008" ∷ [])
     ∷ lists (word 0xEAFFFFFE ++ half 0xF000 ++ half 0xF800) (stretch 4 4) 0xFFFFFFFE (prints 0 4 "b\t0xfffffffe" ∷ prints 4 4 "bl\t0x00000006" ∷ [])
     -- resumed: at a pair, at its second half, which prints alone, behind it, and at the end
     ∷ resumes 2 (half 0x4770 ++ half 0xF000 ++ half 0xF800 ++ half 0x4770) (stretch 0 8) 0 (prints 2 4 "bl\t0x00000006" ∷ prints 6 2 "bx\tlr" ∷ [])
@@ -79,19 +81,19 @@ pub record Refused : Type 0 where
   pub image : List ℕ
   pub list : List ℕ
   pub from : ℕ
-  pub number : ℕ
+  pub checked : Result ⊤ Refusal
 
 abbrev pub given_refusal : Refused → Refused
-given_refusal r = record { image = r.image; list = r.list; from = r.from; number = refusal_at r.image r.list r.from }
+given_refusal r = record { image = r.image; list = r.list; from = r.from; checked = refusal_at r.image r.list r.from }
 
 abbrev six : List ℕ → List ℕ → Refused
-six image list = record { image = image; list = list; from = 1; number = 6 }
+six image list = record { image = image; list = list; from = 1; checked = Err WrongImage }
 
 abbrev seven : List ℕ → List ℕ → Refused
-seven image list = record { image = image; list = list; from = 1; number = 7 }
+seven image list = record { image = image; list = list; from = 1; checked = Err WrongStretches }
 
 abbrev eight : List ℕ → List ℕ → ℕ → Refused
-eight image list from = record { image = image; list = list; from = from; number = 8 }
+eight image list from = record { image = image; list = list; from = from; checked = Err WrongPlace }
 
 abbrev two : List ℕ
 two = word 0xEAFFFFFE ++ word 0xEAFFFFFE

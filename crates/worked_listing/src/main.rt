@@ -6,14 +6,18 @@
 //
 // The rows under it go on with that image. `patch`, an offset of eight digits and a sheet line: shown by the patch's number, and all bytes of the image then.
 // `resume`, an offset and a title: shown by the steps from there on.
-#![tactic(auto)]
+#![tactic(auto, unfolding(text::specs::Puts::puts))]
 
+ghost use Rattle.std.specs.Prelude.{◌≡◌};
+
+use image::Image;
+use input::read_full;
 use patch::patch;
+use refusal::Refusal;
 use std::io;
-use std::io::Read;
 use steps::{Listed, list_step};
-use text::put::{part, put_byte, put_dec, put_hex, put_text};
-use text::read::{contains, first_word, index_of, next_word, read_dec, read_hex};
+use text::put::{Writer, part};
+use text::read::{first_word, next_word, read_number};
 
 // Room for the longest image of the cases, and for what a case shows.
 const IMAGE: usize = 65540;
@@ -22,96 +26,92 @@ const SHOWN: usize = 4096;
 
 const TABLE: usize = 16384;
 
-// Byte i of those that digits write.
-fn byte_at(digits: &[u8], i: usize) -> u8 {
-    if i < digits.len() / 2 {
-        return (read_hex(part(digits, 2 * i, 2)) % 256) as u8;
-    }
-    0
-}
-
-// Writes bytes to the start of a buffer, so often, and answers how many there are.
+// Writes the bytes that digits say to the start of a buffer, so often, and answers how many there are then.
 fn fill(buf: &mut [u8], digits: &[u8], times: usize) -> usize {
-    let size = buf.len();
-    let n = digits.len() / 2;
-    if contains(digits, b'n') {
+    let mut out = Writer { bytes: buf, at: 0 };
+    if digits.contains(&b'n') {
         return 0;
     }
-    for k in 0..size {
-        if n == 0 {
-            return 0;
+    for _ in 0..times {
+        for pair in digits.chunks_exact(2) {
+            out.put_byte((read_number::<16>(pair) % 256) as u8);
         }
-        if times <= k / n {
-            return k;
-        }
-        put_byte(buf, k, byte_at(digits, k % n));
     }
-    size
+    out.at
 }
 
 // A step with a part of a buffer lent, or all of it.
-fn step(
-    image: &[u8],
-    stretches: &[u8],
-    base: u32,
-    at: usize,
-    line: &mut [u8],
-    lent: usize,
-) -> Listed {
+fn step(image: Image, at: usize, line: &mut [u8], lent: usize) -> Result<Listed, Refusal> {
     if lent <= line.len() {
-        return list_step(image, stretches, base, at, &mut line[..lent]);
+        return list_step(image, at, &mut line[..lent]);
     }
-    list_step(image, stretches, base, at, line)
+    list_step(image, at, line)
 }
 
-// What a step answers, as a line of text from a place on.
-fn put_step(out: &mut [u8], at: usize, s: Listed, line: &[u8; 80]) -> usize {
-    let at = put_dec(out, at, (s.offset() % 0x1_0000_0000) as u32);
-    let at = put_byte(out, at, b' ');
-    let at = put_dec(out, at, (s.bytes() % 0x1_0000_0000) as u32);
-    let at = put_byte(out, at, b' ');
-    if s.number() != 0 {
-        let at = put_byte(out, at, b'!');
-        let at = put_dec(out, at, s.number());
-        return put_byte(out, at, b'\n');
+// An offset and a byte length, with a space behind each.
+fn put_place(out: &mut Writer<'_>, offset: usize, bytes: usize)
+    ensures { out.new.bytes.ghost_name ≡ out.old.bytes.ghost_name }
+{
+    out.put_dec((offset % 0x1_0000_0000) as u32);
+    out.put_byte(b' ');
+    out.put_dec((bytes % 0x1_0000_0000) as u32);
+    out.put_byte(b' ');
+}
+
+// `!` and a refusal's number, as a line.
+fn put_refusal(out: &mut Writer<'_>, refusal: Refusal)
+    ensures { out.new.bytes.ghost_name ≡ out.old.bytes.ghost_name }
+{
+    out.put_byte(b'!');
+    out.put_dec(u32::from(refusal));
+    out.put_byte(b'\n');
+}
+
+// What a step answers, as a line of text.
+fn put_step(out: &mut Writer<'_>, s: Listed, line: &[u8; 80])
+    ensures { out.new.bytes.ghost_name ≡ out.old.bytes.ghost_name }
+{
+    put_place(out, s.offset(), s.bytes());
+    match s {
+        Listed::Line(_, _, length) => {
+            out.put_text(part(line, 0, length));
+            out.put_byte(b'\n');
+        }
+        Listed::Refused(refusal, _, _) => put_refusal(out, refusal),
+        Listed::NoRoom(_) => put_refusal(out, Refusal::NoRoom),
+        Listed::End(_) => out.put_text(b"end\n"),
     }
-    if s.bytes() == 0 {
-        return put_text(out, at, b"end\n");
-    }
-    let at = put_text(out, at, part(line, 0, s.length()));
-    put_byte(out, at, b'\n')
 }
 
 // All steps from a place on, at most 64.
-fn put_steps(
-    out: &mut [u8],
-    from: usize,
-    image: &[u8],
-    stretches: &[u8],
-    base: u32,
-    place: usize,
-    room: usize,
-) -> usize {
+fn put_steps(out: &mut Writer<'_>, image: Image, place: usize, room: usize)
+    ensures { out.new.bytes.ghost_name ≡ out.old.bytes.ghost_name }
+{
     let mut line = [0u8; 80];
     let mut lent = room;
     let mut at = place;
-    let mut o = from;
     for _ in 0..64 {
-        let s = step(image, stretches, base, at, &mut line, lent);
-        o = put_step(out, o, s, &line);
-        if s.bytes() == 0 {
-            if s.number() == 3 {
-                lent = 80;
-            } else {
-                return o;
+        match step(image, at, &mut line, lent) {
+            Ok(s) => {
+                put_step(out, s, &line);
+                at = at.wrapping_add(s.bytes());
+                match s {
+                    Listed::NoRoom(_) => lent = 80,
+                    Listed::End(_) => break,
+                    _ => {}
+                }
+            }
+            Err(refusal) => {
+                put_place(out, 0, 0);
+                put_refusal(out, refusal);
+                break;
             }
         }
-        at = at.wrapping_add(s.bytes());
     }
-    o
 }
 
-// The image that the rows are about: its base, and how many bytes it and the list of its stretches have.
+// The image that the rows are about: its base, and how many bytes it and the list of its stretches have. They stand in buffers of fixed size, since no heap
+// is used, and the image is patched there; so their lengths stand beside them.
 #[derive(Clone, Copy)]
 struct Case {
     base: u32,
@@ -119,10 +119,12 @@ struct Case {
     stretches: usize,
 }
 
-// A row, from the start of a buffer on.
-fn put_row(out: &mut [u8], row: &[u8]) -> usize {
-    let at = put_text(out, 0, row);
-    put_byte(out, at, b'\n')
+// A row, as a line.
+fn put_row(out: &mut Writer<'_>, row: &[u8])
+    ensures { out.new.bytes.ghost_name ≡ out.old.bytes.ghost_name }
+{
+    out.put_text(row);
+    out.put_byte(b'\n');
 }
 
 // A listing: its image is filled in, and its steps are shown.
@@ -133,27 +135,26 @@ fn show_listing(
     stretches: &mut [u8; SHOWN],
     out: &mut [u8; SHOWN],
 ) -> io::Result<Case> {
-    let base = read_hex(first_word(row));
+    let base = read_number::<16>(first_word(row));
     let row2 = next_word(row);
-    let place = read_hex(first_word(row2)) as usize;
+    let place = read_number::<16>(first_word(row2)) as usize;
     let row3 = next_word(row2);
-    let room = read_dec(first_word(row3)) as usize;
+    let room = read_number::<10>(first_word(row3)) as usize;
     let row4 = next_word(row3);
-    let times = read_dec(first_word(row4)) as usize;
+    let times = read_number::<10>(first_word(row4)) as usize;
     let row5 = next_word(row4);
     let n = fill(image, first_word(row5), times);
     let m = fill(stretches, first_word(next_word(row5)), 1);
-    let o = put_row(out, row);
-    let o = put_steps(
-        out,
-        o,
-        part(image, 0, n),
-        part(stretches, 0, m),
+    let lent = Image {
+        bytes: part(image, 0, n),
+        stretches: part(stretches, 0, m),
         base,
-        place,
-        room,
-    );
-    rt.write_all(part(out, 0, o))?;
+    };
+    let mut shown = Writer { bytes: out, at: 0 };
+    put_row(&mut shown, row);
+    put_steps(&mut shown, lent, place, room);
+    let end = shown.at;
+    rt.write_all(part(out, 0, end))?;
     Ok(Case {
         base,
         image: n,
@@ -162,25 +163,25 @@ fn show_listing(
 }
 
 // The listing, resumed.
-fn show_resumed(
+fn show_resumed<'a>(
     rt: &impl Print,
     row: &[u8],
     case: Case,
-    image: &[u8; IMAGE],
-    stretches: &[u8; SHOWN],
+    image: &'a [u8; IMAGE],
+    stretches: &'a [u8; SHOWN],
     out: &mut [u8; SHOWN],
 ) -> io::Result<()> {
-    let o = put_row(out, row);
-    let o = put_steps(
-        out,
-        o,
-        part(image, 0, case.image),
-        part(stretches, 0, case.stretches),
-        case.base,
-        read_hex(first_word(next_word(row))) as usize,
-        80,
-    );
-    rt.write_all(part(out, 0, o))
+    let lent = Image {
+        bytes: part(image, 0, case.image),
+        stretches: part(stretches, 0, case.stretches),
+        base: case.base,
+    };
+    let place = read_number::<16>(first_word(next_word(row))) as usize;
+    let mut shown = Writer { bytes: out, at: 0 };
+    put_row(&mut shown, row);
+    put_steps(&mut shown, lent, place, 80);
+    let end = shown.at;
+    rt.write_all(part(out, 0, end))
 }
 
 // A patch of the first n bytes of a buffer, or of all.
@@ -191,7 +192,7 @@ fn patch_part(
     base: u32,
     at: usize,
     line: &[u8],
-) -> u32 {
+) -> Result<(), Refusal> {
     if n <= buf.len() {
         return patch(&mut buf[..n], stretches, base, at, line);
     }
@@ -199,15 +200,15 @@ fn patch_part(
 }
 
 // Bytes, as two digits each, or none.
-fn put_bytes(out: &mut [u8], from: usize, bytes: &[u8]) -> usize {
+fn put_bytes(out: &mut Writer<'_>, bytes: &[u8])
+    ensures { out.new.bytes.ghost_name ≡ out.old.bytes.ghost_name }
+{
     if bytes.is_empty() {
-        return put_text(out, from, b"none");
+        out.put_text(b"none");
     }
-    let mut o = from;
     for b in bytes {
-        o = put_hex(out, o, 2, u32::from(*b));
+        out.put_hex(2, u32::from(*b));
     }
-    o
 }
 
 // The image, patched.
@@ -219,23 +220,29 @@ fn show_patch(
     stretches: &[u8; SHOWN],
     out: &mut [u8; SHOWN],
 ) -> io::Result<()> {
-    let number = patch_part(
+    let patched = patch_part(
         image,
         case.image,
         part(stretches, 0, case.stretches),
         case.base,
-        read_hex(first_word(next_word(row))) as usize,
+        read_number::<16>(first_word(next_word(row))) as usize,
         part(row, 15, row.len()),
     );
-    let o = put_row(out, row);
-    let o = put_dec(out, o, number);
-    let o = put_byte(out, o, b' ');
-    let o = put_bytes(out, o, part(image, 0, case.image));
-    let o = put_byte(out, o, b'\n');
-    rt.write_all(part(out, 0, o))
+    let number = match patched {
+        Ok(()) => 0,
+        Err(refusal) => u32::from(refusal),
+    };
+    let mut shown = Writer { bytes: out, at: 0 };
+    put_row(&mut shown, row);
+    shown.put_dec(number);
+    shown.put_byte(b' ');
+    put_bytes(&mut shown, part(image, 0, case.image));
+    shown.put_byte(b'\n');
+    let end = shown.at;
+    rt.write_all(part(out, 0, end))
 }
 
-// All rows. A row has a byte at least, so there are no more turns than bytes.
+// All rows.
 fn show_all(
     rt: &impl Print,
     table: &[u8],
@@ -248,37 +255,20 @@ fn show_all(
         image: 0,
         stretches: 0,
     };
-    let mut from: usize = 0;
-    for _ in 0..table.len() {
-        let rest = part(table, from, TABLE);
-        let n = index_of(rest, b'\n');
-        if rest.is_empty() {
-            break;
-        }
-        let row = part(rest, 0, n);
-        if contains(first_word(row), b'p') {
+    if table.is_empty() {
+        return Ok(());
+    }
+    let rows = table.strip_suffix(b"\n").unwrap_or(table);
+    for row in rows.split(|byte| *byte == b'\n') {
+        if first_word(row).contains(&b'p') {
             show_patch(rt, row, case, image, stretches, out)?;
-        } else if contains(first_word(row), b'r') {
+        } else if first_word(row).contains(&b'r') {
             show_resumed(rt, row, case, image, stretches, out)?;
         } else {
             case = show_listing(rt, row, image, stretches, out)?;
         }
-        from = from.wrapping_add(n).wrapping_add(1);
     }
     Ok(())
-}
-
-// Reads the input, as far as there is room, and answers how many bytes there are.
-fn read_full<R: Read>(from: &mut R, to: &mut [u8]) -> io::Result<usize> {
-    let mut n = 0;
-    for _ in 0..to.len() {
-        let got = from.read(&mut to[n..])?;
-        if got == 0 {
-            break;
-        }
-        n += got;
-    }
-    Ok(n)
 }
 
 fn main(rt: HostRuntime) -> io::Result<()> {

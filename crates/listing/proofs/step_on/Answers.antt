@@ -12,13 +12,13 @@ pub overflow_add-result : goal.overflow_add-result
 overflow_add-result c =
     let a = c.args in
     let i = c.first_left-i.result in
-    let n : listed_bytes c.step_at-listed.result ≤ length a.image.now - a.at = rw c.step_at-listed.ensures at (listed_inside a.image.now (left a.stretches.now i) a.base a.at a.line.now) in
-    let b : c.bytes.result ≤ length a.image.now - a.at = rw c.bytes.ensures n in
+    let n : listed_bytes c.step_at-listed.result ≤ length a.image.bytes.now - a.at = rw c.step_at-listed.ensures at (listed_inside a.image.bytes.now (left a.image.stretches.now i) a.image.base a.at a.line.now) in
+    let b : c.bytes.result ≤ length a.image.bytes.now - a.at = rw c.bytes.ensures n in
     record { fits = omega (arith, b) }
 
 pub returns : goal.returns
 returns c =
     let f = c.first_left-i in
     let a = c.args in
-    let o : listed_offset c.step_at-listed.result ≡ a.at = rw c.step_at-listed.ensures at (listed_offset_lem a.image.now (left a.stretches.now f.result) a.base a.at a.line.now) in
-    (rw (← listed_left a.image.now a.stretches.now a.next a.base a.at a.line.now, ← f.ensures) c.step_at-listed.ensures, rw (o, c.bytes.ensures), f.ensures)
+    let o : listed_offset c.step_at-listed.result ≡ a.at = rw c.step_at-listed.ensures at (listed_offset_lem a.image.bytes.now (left a.image.stretches.now f.result) a.image.base a.at a.line.now) in
+    (rw (← listed_left a.image.bytes.now a.image.stretches.now a.next a.image.base a.at a.line.now, ← f.ensures) c.step_at-listed.ensures, rw (o, c.bytes.ensures), f.ensures)

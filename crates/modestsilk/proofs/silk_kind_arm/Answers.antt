@@ -5,4 +5,4 @@ use Rattle.arm7tdmi.specs.declared.Form.{Form}
 use Rattle.modestsilk.proofs.silk_kind_arm.Goals as goal
 
 pub returns : goal.returns
-returns c = c.number.ensures ∙ ap arm_number (c.arm_format-fmt.ensures ∙ ap (λ (f : Form). arm_format f c.args.word) c.form_of.ensures)
+returns c = c.from.ensures ∙ ap arm_number (c.arm_format-fmt.ensures ∙ ap (λ (f : Form). arm_format f c.args.word) c.form_of.ensures)

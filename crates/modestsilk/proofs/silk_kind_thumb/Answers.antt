@@ -5,4 +5,4 @@ use Rattle.arm7tdmi.specs.declared.Form.{Form}
 use Rattle.modestsilk.proofs.silk_kind_thumb.Goals as goal
 
 pub returns : goal.returns
-returns c = c.number.ensures ∙ ap thumb_number (c.thumb_format-fmt.ensures ∙ ap (λ (f : Form). thumb_format f c.args.word) c.form_of.ensures)
+returns c = c.from.ensures ∙ ap thumb_number (c.thumb_format-fmt.ensures ∙ ap (λ (f : Form). thumb_format f c.args.word) c.form_of.ensures)

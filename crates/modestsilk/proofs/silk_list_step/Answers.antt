@@ -8,15 +8,11 @@ use Rattle.modestsilk.proofs.silk_list_step.Goals as goal
 pub overflow_cast-offset : goal.overflow_cast-offset
 overflow_cast-offset c =
     let a = c.args in
-    let h : listed_offset c.list_step-s.result ≤ a.place = rw c.list_step-s.ensures at (step_small a.image.now a.stretches.now a.base a.place a.line.now).0 in
+    let h : listed_offset c.in-Ok.s ≤ a.place = (step_small a.image.now a.stretches.now a.base a.place a.line.now c.in-Ok.s _ (rw c.in-Ok.is at c.list_step.ensures)).0 in
     record { fits = omega (arith, h, c.offset.ensures) }
 
 pub overflow_cast-bytes : goal.overflow_cast-bytes
 overflow_cast-bytes c =
     let a = c.args in
-    let h : listed_bytes c.list_step-s.result ≤ 4 = rw c.list_step-s.ensures at (step_small a.image.now a.stretches.now a.base a.place a.line.now).1 in
+    let h : listed_bytes c.in-Ok.s ≤ 4 = (step_small a.image.now a.stretches.now a.base a.place a.line.now c.in-Ok.s _ (rw c.in-Ok.is at c.list_step.ensures)).1 in
     record { fits = omega (arith, h, c.bytes.ensures) }
-
-pub returns : goal.returns
-returns c =
-    rw (c.list_step-s.ensures, c.offset.ensures, c.bytes.ensures, c.length.ensures, c.number.ensures)

@@ -4,14 +4,14 @@ use Rattle.modestsilk.specs.Numbers.{form_of}
 use Rattle.arm_read.specs.Answer.{read_answer}
 use Rattle.modestsilk.proofs.silk_read_arm.Goals as goal
 
-pub returns-in-Word : goal.returns-in-Word
-returns-in-Word c =
+pub returns-in-Some : goal.returns-in-Some
+returns-in-Some c =
     let a = c.args in
-    let e : read_answer (form_of a.form) a.address a.line.now ≡ _ = sym (rw c.form_of.ensures at c.read_arm.ensures) ∙ c.in-Word.is in
+    let e : read_answer (form_of a.form) a.address a.line.now ≡ _ = sym (rw c.form_of.ensures at c.read_arm.ensures) ∙ c.in-Some.is in
     (rw e, rw e)
 
-pub returns-in-Nothing : goal.returns-in-Nothing
-returns-in-Nothing c =
+pub returns-in-None : goal.returns-in-None
+returns-in-None c =
     let a = c.args in
-    let e : read_answer (form_of a.form) a.address a.line.now ≡ _ = sym (rw c.form_of.ensures at c.read_arm.ensures) ∙ c.in-Nothing.is in
+    let e : read_answer (form_of a.form) a.address a.line.now ≡ _ = sym (rw c.form_of.ensures at c.read_arm.ensures) ∙ c.in-None.is in
     (rw e, rw e)

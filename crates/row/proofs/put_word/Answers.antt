@@ -1,52 +1,62 @@
 -- `row::put_word` meets its contract. Assumes nothing.
-use Prim.Native.Nat.{ℕ, ◌+◌, ◌≤◌}
-use mathlib.Core.Bool.{Bool, true}
-use lib.Dec.{leb}
-use borrow.Author.Tests.{leb-true}
-use mathlib.Core.Path.{◌∙◌, ◌≡◌, sym}
-use native.Mathlib.Omega.{arith}
-use Rattle.row.proofs.Answers.{part_kept, part_length, part_refusal, shown_refusal, shown_take, straight, word_whole}
+use Rattle.std.proofs.Common.{Bool, leb, leb-true, sym, true, ◌+◌, ◌∙◌, ◌≡◌, ◌≤◌, ℕ, arith, length-take-le}
+use Rattle.row.proofs.Answers.{as_written, part_kept, part_length, part_refusal, shown_bound, shown_refusal, shown_take, straight, word_whole}
 use Rattle.row.specs.Row.{word_line}
-use Rattle.text.proofs.Wrote.{same_as}
 use Rattle.row.proofs.put_word.Goals as goal
 
 room : (at n : ℕ) (b : Bool) → b ≡ leb (at + 80) n → b ≡ true → at + 80 ≤ n
 room at n b e t = leb-true (at + 80) n (sym e ∙ t)
 
-pub slice_bounds-print_word-count : goal.slice_bounds-print_word-count
-slice_bounds-print_word-count c = let r = room _ _ _ c.has_room.ensures c.if-has_room.true in omega arith
-
-pub slice_bounds-print_word-start : goal.slice_bounds-print_word-start
-slice_bounds-print_word-start c = let r = room _ _ _ c.has_room.ensures c.if-has_room.true in omega arith
-
-pub overflow_add-result : goal.overflow_add-result
-overflow_add-result c =
+pub overflow_add-out : goal.overflow_add-out
+overflow_add-out c =
     let a = c.args in
-    let n = part_length a.out.now _ a.at _ (word_line a.address a.word) (room _ _ _ c.has_room.ensures c.if-has_room.true) (word_whole a.address a.word) c.print_word-p.ensures c.if-p-eq0.true in
+    let w = a.out.now in
     let r = room _ _ _ c.has_room.ensures c.if-has_room.true in
+    let e = rw c.in-Ok.is at c.print_word.ensures in
+    let n = part_length w.bytes.now _ w.at (word_line a.address a.word) r (word_whole a.address a.word) c.in-Ok.n e in
     omega arith
 
-pub returns-then-p-eq0 : goal.returns-then-p-eq0
-returns-then-p-eq0 c =
+pub returns-in-Ok : goal.returns-in-Ok
+returns-in-Ok c =
     let a = c.args in
-    straight a.out.now _ a.at _ (word_line a.address a.word) (room _ _ _ c.has_room.ensures c.if-has_room.true) (word_whole a.address a.word) c.print_word-p.ensures c.if-p-eq0.true
+    let w = a.out.now in
+    let r = room _ _ _ c.has_room.ensures c.if-has_room.true in
+    let e = rw c.in-Ok.is at c.print_word.ensures in
+    as_written w _ _ _ (straight w.bytes.now _ w.at (word_line a.address a.word) r (word_whole a.address a.word) c.in-Ok.n e)
 
-pub returns-then-has_room : goal.returns-then-has_room
-returns-then-has_room c =
+pub returns-in-Err : goal.returns-in-Err
+returns-in-Err c =
     let a = c.args in
-    let w = word_whole a.address a.word in
-    let k = part_kept a.out.now _ a.at _ (word_line a.address a.word) (room _ _ _ c.has_room.ensures c.if-has_room.true) w c.print_word-p.ensures c.if-p-eq0.false in
-    let t = part_refusal a.out.now _ a.at _ (word_line a.address a.word) (room _ _ _ c.has_room.ensures c.if-has_room.true) w c.print_word-p.ensures c.if-p-eq0.false in
-    same_as (rw k at c.put_refusal.ensures) t
+    let w = a.out.now in
+    let r = room _ _ _ c.has_room.ensures c.if-has_room.true in
+    let e = rw c.in-Err.is at c.print_word.ensures in
+    let h = word_whole a.address a.word in
+    let k = part_kept w.bytes.now _ w.at (word_line a.address a.word) r h c.in-Err.refusal e in
+    let t = part_refusal w.bytes.now _ w.at (word_line a.address a.word) r h c.in-Err.refusal e in
+    rw (k, t) at c.put_refusal.ensures
 
-pub returns-then-p-eq0-2 : goal.returns-then-p-eq0-2
-returns-then-p-eq0-2 c =
+pub slice_bounds-line-end : goal.slice_bounds-line-end
+slice_bounds-line-end c =
     let a = c.args in
-    let t = shown_take _ _ _ (omega arith) (word_line a.address a.word) (word_whole a.address a.word) c.print_word-p-2.ensures c.if-p-eq0-2.true in
-    same_as c.put_text.ensures (c.part.ensures ∙ t)
+    let e = rw c.in-Ok-print_word.is at c.print_word-2.ensures in
+    shown_bound _ _ (omega arith) (word_line a.address a.word) c.in-Ok-print_word.n (word_whole a.address a.word) e
 
-pub returns : goal.returns
-returns c =
+pub slice_bounds-put_text-end : goal.slice_bounds-put_text-end
+slice_bounds-put_text-end c =
     let a = c.args in
-    let t = shown_refusal _ _ _ (omega arith) (word_line a.address a.word) (word_whole a.address a.word) c.print_word-p-2.ensures c.if-p-eq0-2.false in
-    same_as c.put_refusal-2.ensures t.0
+    let e = rw c.in-Ok-print_word.is at c.print_word-2.ensures in
+    sym (length-take-le _ _ (shown_bound _ _ (omega arith) (word_line a.address a.word) c.in-Ok-print_word.n (word_whole a.address a.word) e))
+
+pub returns-in-Ok-print_word : goal.returns-in-Ok-print_word
+returns-in-Ok-print_word c =
+    let a = c.args in
+    let e = rw c.in-Ok-print_word.is at c.print_word-2.ensures in
+    let t = shown_take _ _ (omega arith) (word_line a.address a.word) c.in-Ok-print_word.n (word_whole a.address a.word) e in
+    rw t at c.put_text.ensures
+
+pub returns-in-Err-print_word : goal.returns-in-Err-print_word
+returns-in-Err-print_word c =
+    let a = c.args in
+    let e = rw c.in-Err-print_word.is at c.print_word-2.ensures in
+    let t = shown_refusal _ _ (omega arith) (word_line a.address a.word) c.in-Err-print_word.refusal (word_whole a.address a.word) e in
+    rw t.0 at c.put_refusal-in-Err-print_word.ensures

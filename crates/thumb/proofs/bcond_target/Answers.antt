@@ -8,5 +8,5 @@ use Rattle.thumb.proofs.bcond_target.Goals as goal
 pub returns : goal.returns
 unfolding bcond_target bcond_offset
 returns c =
-    rw (← c.wrapping_add_u32-ahead.ensures.value, ← handed_bits 8 2 (bit_range c.args.raw 0 8) (omega arith) (omega arith) (omega arith) c.bcond_offset.ensures)
+    rw (← handed_bits 8 2 (bit_range c.args.raw 0 8) (omega arith) (omega arith) (omega arith) c.bcond_offset.ensures)
     c.move_by.ensures

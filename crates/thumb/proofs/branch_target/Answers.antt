@@ -8,5 +8,5 @@ use Rattle.thumb.proofs.branch_target.Goals as goal
 pub returns : goal.returns
 unfolding branch_target branch_offset11
 returns c =
-    rw (← c.wrapping_add_u32-ahead.ensures.value, ← handed_bits 11 2 (bit_range c.args.raw 0 11) (omega arith) (omega arith) (omega arith) c.branch_offset.ensures)
+    rw (← handed_bits 11 2 (bit_range c.args.raw 0 11) (omega arith) (omega arith) (omega arith) c.branch_offset.ensures)
     c.move_by.ensures

@@ -1,5 +1,5 @@
 -- `thumb::pair_target` meets its contract. Assumes nothing.
-use Rattle.std.proofs.Common.{◌≡◌, ℕ, ◌+◌, ◌*◌, ◌%◌, ◌^◌, ◌∙◌, ap₂, arith}
+use Rattle.std.proofs.Common.{◌≡◌, ℕ, ◌+◌, ◌*◌, ◌%◌, ◌^◌, ◌∙◌, ap, arith}
 use Rattle.arm7tdmi.proofs.Integers.{handed_bits}
 use Rattle.arm7tdmi.specs.Signed.{extended, moved}
 use Rattle.common.specs.Bits.{bit_range}
@@ -16,7 +16,6 @@ unfolding pair_target call_offset
 returns c =
     let a = c.args in
     let x = bit_range a.first 0 11 in
-    let behind : c.wrapping_add_u32-behind.result ≡ moved a.pc 4 = c.wrapping_add_u32-behind.ensures.value in
     let by = handed_bits 11 4096 x (omega arith) (omega arith) (omega arith) c.call_offset.ensures in
-    let high : c.move_by-high.result ≡ moved (moved a.pc 4) (extended 11 4096 x) = c.move_by-high.ensures ∙ ap₂ moved behind by in
-    rw (← summed a.pc (extended 11 4096 x) (bit_range a.second 0 11 * 2), ← high, ← c.offset11.ensures) c.wrapping_add_u32.ensures.value
+    let high : c.move_by-high.result ≡ moved (moved a.pc 4) (extended 11 4096 x) = c.move_by-high.ensures ∙ ap (moved (moved a.pc 4)) by in
+    rw (← summed a.pc (extended 11 4096 x) (bit_range a.second 0 11 * 2), ← high, ← c.offset11.ensures)

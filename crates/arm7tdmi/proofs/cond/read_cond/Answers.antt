@@ -9,4 +9,4 @@ pub returns : goal.returns
 unfolding cond_names packed
 returns c =
     let s = c.args.s.now in
-    (c.position.ensures.0 ∙ rw c.pack.ensures (cond_found s (λ j. (c.type_inv.s j).fits)), c.position.ensures.1)
+    (c.index_of.ensures.0 ∙ rw c.pack.ensures (cond_found s (λ j. (c.type_inv.s j).fits)), c.index_of.ensures.1)

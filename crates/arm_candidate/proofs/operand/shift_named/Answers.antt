@@ -9,4 +9,4 @@ pub returns : goal.returns
 unfolding shift_names packed
 returns c =
     let s = c.args.w.now in
-    (c.position.ensures.0 ∙ rw c.pack.ensures (shift_found s (λ j. (c.type_inv.w j).fits)), c.position.ensures.1)
+    (c.index_of.ensures.0 ∙ rw c.pack.ensures (shift_found s (λ j. (c.type_inv.w j).fits)), c.index_of.ensures.1)

@@ -1,4 +1,5 @@
 -- `arm_candidate::transfer::ldr_offset` meets its contract. Assumes nothing.
+use Rattle.text.proofs.Places.{has_is}
 use Rattle.arm_candidate.specs.CandidateTransfer.{ldr_offset}
 use borrow.Author.Rules.{rules}
 use Rattle.arm_candidate.proofs.transfer.ldr_offset.Goals as goal
@@ -6,9 +7,9 @@ use Rattle.arm_candidate.proofs.transfer.ldr_offset.Goals as goal
 pub returns-then-is_number : goal.returns-then-is_number
 unfolding ldr_offset
 returns-then-is_number c =
-    (rw (← c.requires, ← c.first_word-w.ensures, ← c.is_number.ensures, c.if-is_number.true, c.size_of.ensures.0, c.as_flag.ensures.0, c.is_added-up.ensures, c.decimal-v.ensures.0, c.contains-minus.ensures), search rules)
+    (rw (← c.requires, ← c.first_word-w.ensures, ← c.is_number.ensures, c.if-is_number.true, c.size_of.ensures.0, c.as_flag.ensures.0, c.is_added-up.ensures, c.read_number-v.ensures, c.contains-minus.ensures.value, has_is 45 c.args.line.now), search rules)
 
 pub returns : goal.returns
 unfolding ldr_offset
 returns c =
-    (rw (← c.requires, ← c.first_word-w.ensures, ← c.is_number.ensures, c.if-is_number.false, c.shifted.ensures.0, c.as_flag-2.ensures.0, c.contains-minus.ensures), search rules)
+    (rw (← c.requires, ← c.first_word-w.ensures, ← c.is_number.ensures, c.if-is_number.false, c.shifted.ensures.0, c.as_flag-2.ensures.0, c.contains-minus.ensures.value, has_is 45 c.args.line.now), search rules)

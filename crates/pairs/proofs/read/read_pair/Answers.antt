@@ -11,11 +11,11 @@ returns-then-line-ne13 c =
 pub returns-then-spells : goal.returns-then-spells
 returns-then-spells c =
     let a = c.args in
-    read_some a.address a.line.now c.read_hex.result c.distance-d.result c.first_for-first.result c.second_for-second.result
-    c.read_hex.ensures c.distance-d.ensures c.first_for-first.ensures c.second_for-second.ensures (sym c.spells.ensures ∙ c.if-spells.true)
+    read_some a.address a.line.now c.read_number.result c.distance-d.result c.first_for-first.result c.second_for-second.result
+    c.read_number.ensures c.distance-d.ensures c.first_for-first.ensures c.second_for-second.ensures (sym c.spells.ensures ∙ c.if-spells.true)
 
 pub returns : goal.returns
 returns c =
     let a = c.args in
-    read_none a.address a.line.now c.read_hex.result c.distance-d.result c.first_for-first.result c.second_for-second.result
-    c.read_hex.ensures c.distance-d.ensures c.first_for-first.ensures c.second_for-second.ensures (sym c.spells.ensures ∙ c.if-spells.false)
+    read_none a.address a.line.now c.read_number.result c.distance-d.result c.first_for-first.result c.second_for-second.result
+    c.read_number.ensures c.distance-d.ensures c.first_for-first.ensures c.second_for-second.ensures (sym c.spells.ensures ∙ c.if-spells.false)

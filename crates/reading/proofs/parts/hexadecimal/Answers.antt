@@ -18,4 +18,4 @@ returns-then-w-lt2 c =
 pub returns : goal.returns
 returns c =
     let w = c.first_word-w.result.now in
-    (c.read_hex.ensures ∙ rw (part_rest w 2, c.first_word-w.ensures), search rules)
+    (c.read_number.ensures ∙ rw (part_rest w 2, c.first_word-w.ensures), search rules)

@@ -1,19 +1,23 @@
 -- `row::block::answer_last` meets its contract: the output has room for the answer. Assumes nothing.
-use Prim.Native.Nat.{◌≤◌}
-use lib.ListN.{length, length-take, take}
-use native.Mathlib.Omega.{arith}
-use Rattle.row.proofs.Blocks.{last_some}
+use Rattle.std.proofs.Common.{◌≡◌, ◌∙◌, arith, length, sym, true≢false}
+use Rattle.text.proofs.Puts.{wrote_of}
+use Rattle.row.proofs.Blocks.{last_some, same_buffer, within}
 use Rattle.row.proofs.block.answer_last.Goals as goal
 
-pub returns-then-held-eq0 : goal.returns-then-held-eq0
-returns-then-held-eq0 c = rw c.if-held-eq0.true
+pub shape_of-out : goal.shape_of-out
+shape_of-out c = same_buffer _ _ _ c.answer_line.ensures
 
-pub returns : goal.returns
-returns c =
+pub returns-clause-out_after : goal.returns-clause-out_after
+returns-clause-out_after c =
     let a = c.args in
-    let row = take a.held a.space.now in
-    let held = c.answer_line-arg-1.given in
-    let room = c.answer_line-arg-2-1.given.0.1 in
-    let n = length-take a.held a.space.now in
-    let x : length row ≤ 20 = omega arith in
-    last_some row (λ z. omega arith) (omega arith) c.answer_line.ensures
+    let n : length a.out.now ≡ 393336 = omega arith in
+    let b = c.row-row.ensures.bytes in
+    let f = c.row-row.ensures.few in
+    let t = rw b at (sym c.if-is_empty.false ∙ c.is_empty.ensures) in
+    last_some a.begun.now (λ e. true≢false (sym (rw e at t))) (omega arith) (rw b at (wrote_of _ _ _ c.answer_line.ensures))
+
+pub returns-clause-room : goal.returns-clause-room
+returns-clause-room c =
+    let n : length c.args.out.now ≡ 393336 = omega arith in
+    let h = within (wrote_of _ _ _ c.answer_line.ensures) (omega arith) in
+    omega arith

@@ -1,12 +1,11 @@
--- `row::block::answer_rows` meets its contract. Invariant: the rows before `from` are answered. Assumes nothing.
-use Prim.Native.Nat.{◌-◌, ◌≤◌}
-use lib.ListN.{length}
-use mathlib.Core.Path.{◌≡◌}
-use Rattle.row.proofs.Blocks.{Reached}
+-- `row::block::answer_rows` meets its contract. Invariant: what is left to write are the answers to the rest. Assumes nothing.
+use Rattle.std.proofs.Common.{◌≡◌, [], length}
+use Rattle.row.specs.Block.{answers, unfinished}
+use Rattle.text.specs.Puts.{puts}
 use Rattle.row.proofs.block.answer_rows.Given as goal
 
-abbrev pub invariant-loop-from : goal.invariant-loop-from
-invariant-loop-from l = (l.from ≤ length l.input) × (length l.out ≡ length l.initial.out) × Reached l.input l.initial.out l.at l.from l.out l.o
+abbrev pub invariant-loop-row : goal.invariant-loop-row
+invariant-loop-row l = (puts l.initial.out (answers [] l.input) ≡ puts l.out (answers [] l.rest)) × (unfinished [] l.input ≡ unfinished [] l.rest)
 
-abbrev pub decreases-loop-from : goal.decreases-loop-from
-decreases-loop-from l = length l.input - l.from
+abbrev pub decreases-loop-row : goal.decreases-loop-row
+decreases-loop-row l = length l.rest

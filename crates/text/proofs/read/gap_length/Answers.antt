@@ -1,22 +1,12 @@
--- `text::read::gap_length` meets its contract. Invariant: the first i bytes are of no word. Assumes nothing.
-use native.Mathlib.Omega.{arith}
-use Rattle.common.proofs.Lists.{first_here, first_on, first_out}
+-- `text::read::gap_length` meets its contract. Assumes nothing.
+use Rattle.std.proofs.Common.{rules}
+use Rattle.std.proofs.lemmas.Iterator.{YieldsList-from_slice}
+use Rattle.std.proofs.lemmas.Iterator.Search.{position_from_yields_List}
+use borrow.Author.Tests.{tests}
+use Rattle.text.proofs.Places.{place_is}
 use Rattle.text.specs.Word.{is_word}
 use Rattle.text.proofs.read.gap_length.Goals as goal
 
-pub returns-then-is_word : goal.returns-then-is_word
-returns-then-is_word c =
-    let s = c.args.s.now in
-    let z = first_here is_word s c.loop-i.i 0 (omega arith) (rw (← c.is_word.ensures, c.if-is_word.true)) in
-    omega arith
-
-pub loop-i-preserved : goal.loop-i-preserved
-loop-i-preserved c =
-    let s = c.args.s.now in
-    let z = first_on is_word s c.loop-i.i 0 (omega arith) (rw (← c.is_word.ensures, c.if-is_word.false)) in
-    omega arith
-
 pub returns : goal.returns
 returns c =
-    let z = first_out is_word c.args.s.now c.loop-i.i (omega arith) in
-    omega arith
+    rw c.unwrap_or.ensures (place_is is_word c.args.s.now c.position.result (position_from_yields_List is_word _ _ c.position.result c.position.ensures.ran (YieldsList-from_slice c.args.s.now c.iter.ensures.rest) (λ x b q k. search (rules, tests))))

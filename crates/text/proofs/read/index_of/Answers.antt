@@ -1,24 +1,12 @@
--- `text::read::index_of` meets its contract. Invariant: the byte is none of the first i. Assumes nothing.
-use borrow.Author.Tests.{eq-eqb, ne_eqb}
-use lib.Dec.{eqb}
-use native.Mathlib.Omega.{arith}
-use Rattle.common.proofs.Lists.{first_here, first_on, first_out}
+-- `text::read::index_of` meets its contract. Assumes nothing.
+use Rattle.std.proofs.Common.{rules}
+use Rattle.std.proofs.lemmas.Iterator.{YieldsList-from_slice}
+use Rattle.std.proofs.lemmas.Iterator.Search.{position_from_yields_List}
+use borrow.Author.Tests.{tests}
+use Rattle.text.proofs.Places.{place_is}
 use Rattle.text.proofs.read.index_of.Goals as goal
 
-pub returns-then-s-i : goal.returns-then-s-i
-returns-then-s-i c =
-    let a = c.args in
-    let z = first_here (λ m. eqb m a.x) a.s.now c.loop-i.i 0 (omega arith) (eq-eqb _ _ c.if-s-i.true) in
-    omega arith
-
-pub loop-i-preserved : goal.loop-i-preserved
-loop-i-preserved c =
-    let a = c.args in
-    let z = first_on (λ m. eqb m a.x) a.s.now c.loop-i.i 0 (omega arith) (ne_eqb _ _ c.if-s-i.false) in
-    omega arith
-
 pub returns : goal.returns
-returns c =
+returns g c =
     let a = c.args in
-    let z = first_out (λ m. eqb m a.x) a.s.now c.loop-i.i (omega arith) in
-    omega arith
+    rw c.unwrap_or.ensures (place_is (λ y. g.T.PartialEq.eq y a.x) a.xs.now c.position.result (position_from_yields_List (λ y. g.T.PartialEq.eq y a.x) _ _ c.position.result c.position.ensures.ran (YieldsList-from_slice a.xs.now c.iter.ensures.rest) (λ x b q k. search (rules, tests))))

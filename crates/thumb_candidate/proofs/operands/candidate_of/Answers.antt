@@ -4,4 +4,4 @@ use Rattle.thumb_candidate.proofs.operands.candidate_of.Goals as goal
 
 pub returns : goal.returns
 unfolding candidate
-returns c = λ p. rw (c.operands_of-n.ensures.0 p)
+returns c = rw c.operands_of.ensures.0

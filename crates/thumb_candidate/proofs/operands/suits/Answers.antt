@@ -4,80 +4,80 @@ use Rattle.thumb_candidate.proofs.operands.suits.Goals as goal
 
 pub returns-in-MoveShiftedReg : goal.returns-in-MoveShiftedReg
 unfolding suits
-returns-in-MoveShiftedReg c = λ l v. rw c.in-MoveShiftedReg.is
+returns-in-MoveShiftedReg c = rw c.in-MoveShiftedReg.is
 
 pub returns-in-AddSub : goal.returns-in-AddSub
 unfolding suits
-returns-in-AddSub c = λ l v. rw (c.in-AddSub.is, ← v.1)
+returns-in-AddSub c = rw (c.in-AddSub.is, ← c.args.sought.now.taken.3.1)
 
 pub returns-in-DataProcessImm : goal.returns-in-DataProcessImm
 unfolding suits
-returns-in-DataProcessImm c = λ l v. rw (c.in-DataProcessImm.is, ← v.1)
+returns-in-DataProcessImm c = rw (c.in-DataProcessImm.is, ← c.args.sought.now.taken.3.1)
 
 pub returns-in-AluOps : goal.returns-in-AluOps
 unfolding suits
-returns-in-AluOps c = λ l v. rw c.in-AluOps.is
+returns-in-AluOps c = rw c.in-AluOps.is
 
 pub returns-in-HiRegOpOrBranchExchange : goal.returns-in-HiRegOpOrBranchExchange
 unfolding suits
-returns-in-HiRegOpOrBranchExchange c = λ l v. rw c.in-HiRegOpOrBranchExchange.is
+returns-in-HiRegOpOrBranchExchange c = rw c.in-HiRegOpOrBranchExchange.is
 
 pub returns-in-LdrPc : goal.returns-in-LdrPc
 unfolding suits
-returns-in-LdrPc c = λ l v. rw (c.in-LdrPc.is, ← v.1)
+returns-in-LdrPc c = rw (c.in-LdrPc.is, ← c.args.sought.now.taken.3.1)
 
 pub returns-in-LdrStrRegOffset : goal.returns-in-LdrStrRegOffset
 unfolding suits
-returns-in-LdrStrRegOffset c = λ l v. rw (c.in-LdrStrRegOffset.is, ← v.2)
+returns-in-LdrStrRegOffset c = rw (c.in-LdrStrRegOffset.is, ← c.args.sought.now.taken.3.2)
 
 pub returns-in-LdrStrSHB : goal.returns-in-LdrStrSHB
 unfolding suits
-returns-in-LdrStrSHB c = λ l v. rw (c.in-LdrStrSHB.is, ← v.2)
+returns-in-LdrStrSHB c = rw (c.in-LdrStrSHB.is, ← c.args.sought.now.taken.3.2)
 
 pub returns-in-LdrStrImmOffset : goal.returns-in-LdrStrImmOffset
 unfolding suits
-returns-in-LdrStrImmOffset c = λ l v. rw (c.in-LdrStrImmOffset.is, ← v.1)
+returns-in-LdrStrImmOffset c = rw (c.in-LdrStrImmOffset.is, ← c.args.sought.now.taken.3.1)
 
 pub returns-in-LdrStrHalfWord : goal.returns-in-LdrStrHalfWord
 unfolding suits
-returns-in-LdrStrHalfWord c = λ l v. rw (c.in-LdrStrHalfWord.is, ← v.1)
+returns-in-LdrStrHalfWord c = rw (c.in-LdrStrHalfWord.is, ← c.args.sought.now.taken.3.1)
 
 pub returns-in-LdrStrSp : goal.returns-in-LdrStrSp
 unfolding suits
-returns-in-LdrStrSp c = λ l v. rw (c.in-LdrStrSp.is, ← v.1)
+returns-in-LdrStrSp c = rw (c.in-LdrStrSp.is, ← c.args.sought.now.taken.3.1)
 
 pub returns-in-LoadAddress : goal.returns-in-LoadAddress
 unfolding suits
-returns-in-LoadAddress c = λ l v. rw (c.in-LoadAddress.is, ← v.1)
+returns-in-LoadAddress c = rw (c.in-LoadAddress.is, ← c.args.sought.now.taken.3.1)
 
 pub returns-in-AddSp : goal.returns-in-AddSp
 unfolding suits
-returns-in-AddSp c = λ l v. rw c.in-AddSp.is
+returns-in-AddSp c = rw c.in-AddSp.is
 
 pub returns-in-PushPop : goal.returns-in-PushPop
 unfolding suits
-returns-in-PushPop c = λ l v. rw c.in-PushPop.is
+returns-in-PushPop c = rw c.in-PushPop.is
 
 pub returns-in-LdmStm : goal.returns-in-LdmStm
 unfolding suits
-returns-in-LdmStm c = λ l v. rw c.in-LdmStm.is
+returns-in-LdmStm c = rw c.in-LdmStm.is
 
 pub returns-in-BranchConditional : goal.returns-in-BranchConditional
 unfolding suits
-returns-in-BranchConditional c = λ l v. rw c.in-BranchConditional.is
+returns-in-BranchConditional c = rw c.in-BranchConditional.is
 
 pub returns-in-Swi : goal.returns-in-Swi
 unfolding suits
-returns-in-Swi c = λ l v. rw c.in-Swi.is
+returns-in-Swi c = rw c.in-Swi.is
 
 pub returns-in-Branch : goal.returns-in-Branch
 unfolding suits
-returns-in-Branch c = λ l v. rw c.in-Branch.is
+returns-in-Branch c = rw c.in-Branch.is
 
 pub returns-in-BranchLongWithLink : goal.returns-in-BranchLongWithLink
 unfolding suits
-returns-in-BranchLongWithLink c = λ l v. rw c.in-BranchLongWithLink.is
+returns-in-BranchLongWithLink c = rw c.in-BranchLongWithLink.is
 
 pub returns-in-Undefined : goal.returns-in-Undefined
 unfolding suits
-returns-in-Undefined c = λ l v. rw c.in-Undefined.is
+returns-in-Undefined c = rw c.in-Undefined.is

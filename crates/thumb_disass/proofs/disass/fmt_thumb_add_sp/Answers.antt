@@ -1,9 +1,12 @@
--- `thumb_disass::disass::fmt_thumb_add_sp` meets its contract: what it writes is what its calls write, one after the other. Assumes nothing.
-use Rattle.text.proofs.Wrote.{◌⨾◌}
+-- `thumb_disass::disass::fmt_thumb_add_sp` meets its contract. Assumes nothing.
+use Rattle.text.proofs.Puts.{puts_append}
+use Rattle.text.specs.Text.{text}
 use Rattle.thumb_disass.specs.Line.{fmt_thumb_add_sp}
+use Rattle.thumb_operand.specs.Operand.{sp_offset}
 use Rattle.thumb_disass.proofs.disass.fmt_thumb_add_sp.Goals as goal
 
 pub returns : goal.returns
 unfolding fmt_thumb_add_sp
 returns c =
-    c.put_text-at.ensures ⨾ c.put_sp_offset.ensures
+    let a = c.args in
+    rw (puts_append a.out.now (text "add\tsp, #") (sp_offset a.form a.raw), ← c.put_text.ensures) c.put_sp_offset.ensures

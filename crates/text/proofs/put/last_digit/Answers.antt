@@ -1,8 +1,0 @@
--- `text::put::last_digit` meets its contract. Assumes nothing.
-use Rattle.text.proofs.put.last_digit.Goals as goal
-
-pub returns-then-is_hex : goal.returns-then-is_hex
-returns-then-is_hex c = rw c.if-is_hex.true
-
-pub returns : goal.returns
-returns c = rw c.if-is_hex.false

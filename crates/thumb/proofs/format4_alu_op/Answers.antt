@@ -1,5 +1,0 @@
--- `thumb::format4_alu_op` meets its contract. Assumes nothing.
-use Rattle.thumb.proofs.format4_alu_op.Goals as goal
-
-pub returns : goal.returns
-returns c = rw (c.from_u32.ensures, c.bit_range.ensures)
