@@ -47,7 +47,7 @@ impl From<ArmFormat> for u32 {
 }
 
 // Bits 27-25 equal to 011: the value under which bit 4 makes a word undefined.
-fn undefined_bits(form: Form) -> u32
+pub fn undefined_bits(form: Form) -> u32
     ensures { result ≡ undefined_bits form }
 {
     match form {
@@ -88,14 +88,14 @@ fn arm_rows(form: Form) -> [Row<ArmFormat>; 15]
     ]
 }
 
-// The kind of a word.
+// The kind of a word. Rows, kinds and the words are other types in each set, so `thumb_format` is not this function; what they share is `first_match`.
 pub fn arm_format(form: Form, raw: u32) -> ArmFormat
     ensures { result ≡ arm_format form raw }
 {
     first_match(arm_rows(form), raw, ArmFormat::Undefined)
 }
 
-// A decoded word. A struct of this crate, and no instance of one that thumb shares, so that it has functions of its own, as in the Rust.
+// A decoded word. Kind and word are other types in thumb, and a struct of both sets could have no functions of its own here, as in the Rust.
 #[derive(Clone, Copy, Debug, PartialEq, Eq)]
 pub struct ArmInstruction {
     pub fmt: ArmFormat,
@@ -219,7 +219,8 @@ pub fn halfword_data_transfer_type(raw: u32) -> Option<ArmHalfwordTransferType>
     }
 }
 
-// The sign-extended 24-bit field times four: its sign goes to the top, and the shift back keeps it.
+// The sign-extended 24-bit field times four: its sign goes to the top, and the shift back keeps it. Thumb has three more such offsets: a function of all would
+// take the shifts, and would ask that they are below 32.
 pub fn branch_offset(raw: u32) -> i32
     ensures { result ≡ branch_offset raw }
 {

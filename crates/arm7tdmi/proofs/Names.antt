@@ -1,8 +1,9 @@
 -- Names of registers and conditions: what the code writes, that it is read back, and how long it is. Assumes nothing.
-use Rattle.std.proofs.Common.{◌≡◌, ℕ, ◌+◌, ◌-◌, ◌*◌, ◌/◌, ◌%◌, ◌^◌, ◌<◌, ◌≤◌, Bool, true, false, cond, not, ◌&&◌, eqb, ltb, List, [], ◌∷◌, ◌++◌, map, get_or, sym, refl, ap, ◌∙◌, arith, ne_eqb, eqb-true}
+use Rattle.std.proofs.Common.{◌≡◌, ℕ, ◌+◌, ◌-◌, ◌*◌, ◌/◌, ◌%◌, ◌^◌, ◌<◌, ◌≤◌, Bool, true, false, cond, not, ◌&&◌, eqb, ltb, List, [], ◌++◌, map, get_or, sym, refl, ap, ◌∙◌, arith, ne_eqb, eqb-true}
 use borrow.Author.Tests.{eqb-false}
 use lib.ListN.{get_or-eq_default}
-use Rattle.arm7tdmi.specs.Names.{cond_named, cond_names, cond_text, reg_named, reg_names, reg_string}
+use Rattle.arm7tdmi.specs.Cond.{arm_cond, arm_cond_number}
+use Rattle.arm7tdmi.specs.Names.{cond_named, cond_names, cond_text, letters, reg_named, reg_names, reg_string}
 use Rattle.common.proofs.Lists.{NoneOf, agreed, none_found, picked}
 use Rattle.common.proofs.Tests.{at, at_not, by_test}
 use Rattle.common.specs.Lists.{find, first, same}
@@ -16,16 +17,13 @@ use Rattle.text.specs.Word.{is_word, packed}
 abbrev pub reg_bytes : List ℕ
 reg_bytes = text "r0r1r2r3r4r5r6r7r8r9r1fpipsplrpc"
 
-abbrev pair : List ℕ → ℕ → List ℕ
-pair l n = get_or l (2 * n) 0 ∷ get_or l (2 * n + 1) 0 ∷ []
-
 pub reg_none : (n : ℕ) → 16 ≤ n → reg_string n ≡ []
 unfolding reg_string reg_names
 reg_none n h = get_or-eq_default reg_names [] {n = n} h
 
-pub reg_written : (n : ℕ) → n < 16 → reg_string n ≡ pair reg_bytes n ++ cond (eqb n 10) (text "0") []
-unfolding reg_string reg_names same
-reg_written n h = sym (agreed (λ n. pair reg_bytes n ++ cond (eqb n 10) (text "0") []) reg_string 16 refl n h)
+pub reg_written : (n : ℕ) → n < 16 → reg_string n ≡ letters reg_bytes n ++ cond (eqb n 10) (text "0") []
+unfolding letters reg_string reg_names same
+reg_written n h = sym (agreed (λ n. letters reg_bytes n ++ cond (eqb n 10) (text "0") []) reg_string 16 refl n h)
 
 abbrev pub cond_bytes : List ℕ
 cond_bytes = text "eqnecsccmiplvsvchilsgeltgtle"
@@ -34,9 +32,9 @@ pub cond_none : (n : ℕ) → 14 ≤ n → cond_text n ≡ []
 unfolding cond_text cond_names
 cond_none n h = by_test (eqb n 14) (λ e. rw (eqb-true n 14 e)) (λ e. let d = eqb-false n 14 e in get_or-eq_default cond_names [] {n = n} (omega arith))
 
-pub cond_pair : (n : ℕ) → n < 14 → cond_text n ≡ pair cond_bytes n
-unfolding cond_text cond_names same
-cond_pair n h = sym (agreed (pair cond_bytes) cond_text 14 refl n h)
+pub cond_letters : (n : ℕ) → n < 14 → cond_text n ≡ letters cond_bytes n
+unfolding letters cond_text cond_names same
+cond_letters n h = sym (agreed (letters cond_bytes) cond_text 14 refl n h)
 
 -- ---- what is written is read back
 pub reg_back : (n : ℕ) → n < 16 → reg_named (reg_string n) ≡ n
@@ -55,6 +53,11 @@ reg_found l h = find_packed reg_names l refl h
 pub cond_found : (l : List ℕ) → Bytes l → find (packed l) (map packed cond_names) ≡ cond_named l
 unfolding cond_named cond_names
 cond_found l h = find_packed cond_names l refl h
+
+-- a number of four bits is that of its condition
+pub cond_numbered : (n : ℕ) → n < 16 → arm_cond_number (arm_cond n) ≡ n
+unfolding arm_cond
+cond_numbered n h = eqb-true _ _ (at (λ n. eqb (arm_cond_number (arm_cond n)) n) 16 refl n h)
 
 -- ---- packed names as the code finds them: `r` and what stands behind it, or another first byte
 abbrev codes : List ℕ

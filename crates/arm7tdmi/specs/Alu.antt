@@ -56,6 +56,25 @@ is_setting_flags Op.MOV = false
 is_setting_flags Op.BIC = false
 is_setting_flags Op.MVN = false
 
+-- the opcodes that have a result and no first operand
+abbrev pub is_move : AluOpCode → Bool
+is_move Op.AND = false
+is_move Op.EOR = false
+is_move Op.SUB = false
+is_move Op.RSB = false
+is_move Op.ADD = false
+is_move Op.ADC = false
+is_move Op.SBC = false
+is_move Op.RSC = false
+is_move Op.TST = false
+is_move Op.TEQ = false
+is_move Op.CMP = false
+is_move Op.CMN = false
+is_move Op.ORR = false
+is_move Op.MOV = true
+is_move Op.BIC = false
+is_move Op.MVN = true
+
 -- the shifts in the order of their numbers, and the shift of a number of two bits
 abbrev pub barrel_shift_op_codes : List BarrelShiftOpCode
 barrel_shift_op_codes = Shift.LSL ∷ Shift.LSR ∷ Shift.ASR ∷ Shift.ROR ∷ []

@@ -1,7 +1,11 @@
 -- Names of registers and conditions. Assumes nothing.
-use Rattle.std.specs.Prelude.{ℕ, List, [], ◌∷◌, slice_index_or}
+use Rattle.std.specs.Prelude.{ℕ, ◌+◌, ◌*◌, List, [], ◌∷◌, get_or, slice_index_or}
 use Rattle.common.specs.Lists.{place}
 use Rattle.text.specs.Text.{text}
+
+-- name n of names of two letters each, one behind the other
+unfoldable pub letters : List ℕ → ℕ → List ℕ
+letters names n = get_or names (2 * n) 0 ∷ get_or names (2 * n + 1) 0 ∷ []
 
 -- document 01: "`reg_string`, with r11 to r15 named fp, ip, sp, lr, pc"
 unfoldable pub reg_names : List (List ℕ)

@@ -1,6 +1,6 @@
 // Opcodes, shifts and operands.
 ghost use Rattle.std.specs.Prelude.{◌≡◌};
-ghost use Rattle.arm7tdmi.specs.Alu.{alu_op_code, alu_number, is_setting_flags, barrel_shift_op_code, barrel_shift_number, amount_of_zero, sheet_amount, amount_of, places, rotate_right, decode_rotated_immediate};
+ghost use Rattle.arm7tdmi.specs.Alu.{alu_op_code, alu_number, is_setting_flags, is_move, barrel_shift_op_code, barrel_shift_number, amount_of_zero, sheet_amount, amount_of, places, rotate_right, decode_rotated_immediate};
 
 use crate::Form;
 
@@ -24,7 +24,7 @@ pub enum AluOpCode {
     MVN,
 }
 
-// The opcode of a number, by its lowest four bits.
+// The opcode of a number, by its lowest four bits. Each such enum has a conversion of its own, as it names its own values.
 #[tactic(auto, unfolding(crate::specs::Alu::alu_op_code))]
 impl From<u32> for AluOpCode {
     ghost from_gives = { λ n x. x ≡ alu_op_code n };
@@ -69,6 +69,13 @@ impl AluOpCode {
             self,
             AluOpCode::TST | AluOpCode::TEQ | AluOpCode::CMP | AluOpCode::CMN
         )
+    }
+
+    // Whether it has a result and no first operand.
+    pub fn is_move(self) -> bool
+        ensures { result ≡ is_move self }
+    {
+        matches!(self, AluOpCode::MOV | AluOpCode::MVN)
     }
 }
 

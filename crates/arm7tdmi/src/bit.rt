@@ -1,4 +1,4 @@
-// The Rust's `bit(n)` and `bit_range(a..b)`, for words of 16 and of 32 bits.
+// The Rust's `bit(n)` and `bit_range(a..b)`. All take 32 bits: a word of 16 is widened.
 ghost use Rattle.std.specs.Prelude.{◌≡◌, ◌/◌, ◌%◌, ◌^◌};
 ghost use Rattle.common.specs.Bits.{bit, bit_range};
 

@@ -1,9 +1,10 @@
 // Conditions, for both sets; the Rust has them in arm/mod.rs.
-ghost use Rattle.std.specs.Prelude.{◌≡◌, ◌≤◌};
+ghost use Rattle.std.specs.Prelude.{◌≡◌};
 ghost use Rattle.text.specs.Puts.{puts};
 ghost use Rattle.arm7tdmi.specs.Cond.{arm_cond, arm_cond_number};
 ghost use Rattle.arm7tdmi.specs.Names.{cond_text, cond_named};
 
+use crate::put_letters;
 use text::put::Writer;
 use text::read::{index_of, pack};
 
@@ -28,7 +29,7 @@ pub enum ArmCond {
     Invalid,
 }
 
-// The condition of a number, by its lowest four bits.
+// The condition of a number, by its lowest four bits; like that of an opcode, but for the values.
 #[tactic(auto, unfolding(crate::specs::Cond::arm_cond))]
 impl From<u32> for ArmCond {
     ghost from_gives = { λ n x. x ≡ arm_cond n };
@@ -64,28 +65,26 @@ impl From<ArmCond> for u32 {
     }
 }
 
-// The name of a condition; nothing for AL and for a number past it.
-#[tactic(auto, using(text::proofs::Puts::written, crate::proofs::Names::cond_none, crate::proofs::Names::cond_pair))]
+// The name of a condition; nothing for AL and for a number past it. The condition is a number, as a field has it: an `ArmCond` would be made of the number and be
+// a number again.
+#[tactic(auto, using(text::proofs::Puts::written, crate::proofs::Names::cond_none))]
 pub fn put_cond(out: &mut Writer<'_>, n: u32)
     ensures { out.new ≡ puts out.old (cond_text n) }
 {
     if n < 14 {
-        let names = b"eqnecsccmiplvsvchilsgeltgtle";
-        let i = 2 * n as usize;
-        out.put_byte(names[i]);
-        out.put_byte(names[i + 1]);
+        put_letters(out, b"eqnecsccmiplvsvchilsgeltgtle", n);
     }
 }
 
-// The conditions' names, packed.
+// The conditions' names, packed: few enough to be looked through.
 const COND_NAMES: [u64; 15] = [
     0x7165, 0x656e, 0x7363, 0x6363, 0x696d, 0x6c70, 0x7376, 0x6376, 0x6968, 0x736c, 0x6567, 0x746c,
     0x7467, 0x656c, 0,
 ];
 
-// The condition that a word names, or 15: as `read_reg`.
-pub fn read_cond(s: &[u8]) -> u32
-    ensures { (result ≡ cond_named s.now) × (result ≤ 15) }
+// The condition that a word names: AL of the empty word, and the last, which has no name, of a word that names none.
+pub fn read_cond(s: &[u8]) -> ArmCond
+    ensures { arm_cond_number result ≡ cond_named s.now }
 {
-    index_of(&COND_NAMES, pack(s)) as u32
+    ArmCond::from(index_of(&COND_NAMES, pack(s)) as u32)
 }

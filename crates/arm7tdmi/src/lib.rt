@@ -5,10 +5,10 @@ ghost use Rattle.std.specs.Prelude.{◌≡◌, ◌+◌, ◌*◌, ◌^◌, ◌≤
 ghost use Rattle.common.specs.Lists.{find};
 ghost use Rattle.text.specs.Word.{packed};
 ghost use Rattle.text.specs.Puts.{puts};
-ghost use Rattle.arm7tdmi.specs.Names.{reg_names, reg_string, reg_named};
+ghost use Rattle.arm7tdmi.specs.Names.{letters, reg_names, reg_string, reg_named};
 
 use text::put::Writer;
-use text::read::pack;
+use text::read::{item_or, pack};
 
 pub mod alu;
 pub mod bit;
@@ -30,12 +30,19 @@ pub fn put_reg(out: &mut Writer<'_>, reg: u32)
     ensures { out.new ≡ puts out.old (reg_string reg) }
 {
     if reg < 16 {
-        let names = b"r0r1r2r3r4r5r6r7r8r9r1fpipsplrpc";
-        let i = 2 * reg as usize;
-        out.put_byte(names[i]);
-        out.put_byte(names[i + 1]);
+        put_letters(out, b"r0r1r2r3r4r5r6r7r8r9r1fpipsplrpc", reg);
         out.put_if(reg == 10, b'0');
     }
+}
+
+// Name i of names of two letters each. They stand in one text, which stays where it is; an array of texts would be copied at each call.
+#[tactic(auto, using(text::proofs::Puts::written), unfolding(crate::specs::Names::letters))]
+fn put_letters(out: &mut Writer<'_>, names: &[u8], i: u32)
+    ensures { out.new ≡ puts out.old (letters names.now i) }
+{
+    let at = 2 * i as usize;
+    out.put_byte(item_or(names, at, 0));
+    out.put_byte(item_or(names, at + 1, 0));
 }
 
 // The register whose packed name is `r` and then m, or 16, as `read_reg` answers.

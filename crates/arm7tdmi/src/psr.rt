@@ -9,6 +9,7 @@ pub struct RegPSR {
     pub raw: u32,
 }
 
+// The flags have the Rust's names, and are one expression each.
 impl RegPSR {
     pub fn new(u: u32) -> Self
         ensures { result.raw ≡ u }

@@ -1,2 +1,3 @@
 pub mod Dispatch
 pub mod Shifts
+pub mod Opcodes

@@ -1,4 +1,5 @@
 pub mod CandidateParts
+pub mod CandidateSaid
 pub mod CandidateOperand
 pub mod CandidateSimple
 pub mod CandidateTransfer

@@ -1,137 +1,107 @@
 // Transfers.
-ghost use Rattle.std.specs.Prelude.{◌≡◌, ℕ, ◌≤◌, ◌<◌, ◌^◌, eqb, get_or};
-ghost use Rattle.arm7tdmi.specs.declared.Form.{Form};
-ghost use Rattle.arm_candidate.specs.CandidateTransfer.{ldm_cand, base_in, is_added, size_of, ldr_offset, ldr_cand, half_offset, half_cand};
-ghost use Rattle.text.specs.Word.{after, behind};
+ghost use Rattle.std.specs.Prelude.{◌≡◌, ◌≤◌, ◌<◌, ◌^◌};
+ghost use Rattle.arm_candidate.specs.CandidateSaid.{of_said};
+ghost use Rattle.arm_candidate.specs.CandidateTransfer.{ldm_cand, indexed_in, base_in, is_added, size_of, ldr_offset, ldr_cand, half_offset, half_cand};
 
-use crate::operand::shifted;
-use crate::parts::{byte_at, is_number};
+use crate::operand::{is_number, shifted};
+use crate::parts::Said;
 use arm7tdmi::Form;
-use reading::parts::{as_flag, register, register_list};
-use text::read::{behind_word, first_word, next_word, read_number};
+use reading::parts::{register, register_list};
+use text::read::{behind_word, first_word, has, item_or, read_number};
 
 // ldm and stm. `^` and `!` stand nowhere else in the line.
-pub fn ldm_candidate(b: u64, c: u64, line: &[u8]) -> u64
-    requires { (b < 2 ^ 25) × (c ≤ 15) }
-    ensures { (form : Form) (pc : ℕ) → result ≡ ldm_cand form pc b c line.now }
+pub fn ldm_candidate(said: &Said) -> u64
+    ensures { result ≡ of_said ldm_cand said.now }
 {
-    let one = next_word(line);
-    let user = as_flag(line.contains(&b'^'));
-    let back = as_flag(line.contains(&b'!'));
-    let rn = register(one) as u64;
-    let list = register_list(16, next_word(one));
-    c * 0x1000_0000
-        + 0x0800_0000
-        + b
-        + user * 0x0040_0000
-        + back * 0x0020_0000
-        + rn * 0x0001_0000
-        + list
+    let user = u64::from(has(said.line, b'^'));
+    let back = u64::from(has(said.line, b'!'));
+    let rn = u64::from(register(said.one));
+    let list = u64::from(register_list(16, said.two));
+    let top = said.condition() * 0x1000_0000 + 0x0800_0000 + said.bits();
+    top + user * 0x0040_0000 + back * 0x0020_0000 + rn * 0x0001_0000 + list
 }
 
 // Whether the offset is within the brackets: a comma stands behind Rn.
-fn indexed(two: &[u8]) -> bool
-    ensures { result ≡ eqb (get_or (behind two.now) 0 0) 44 }
+fn indexed(said: &Said) -> bool
+    ensures { result ≡ indexed_in said.now.line.now }
 {
-    byte_at(behind_word(two), 0) == b','
+    item_or(behind_word(said.two), 0, 0) == b','
 }
 
 // Bits 24-12: those of the mnemonic, P, W, Rn and Rd.
-fn base_in(b: u64, line: &[u8], one: &[u8], two: &[u8]) -> u64
-    requires { (b < 2 ^ 25) × (one.now ≡ after line.now) × (two.now ≡ after (after line.now)) }
-    ensures { (result ≡ base_in b line.now) × (result < 2 ^ 27) }
+fn base_in(said: &Said) -> u64
+    ensures { (result ≡ base_in said.now.head.bits said.now.line.now) × (result < 2 ^ 27) }
 {
-    let before = as_flag(indexed(two));
-    let back = as_flag(line.contains(&b'!'));
-    b + before * 0x0100_0000
-        + back * 0x0020_0000
-        + register(two) as u64 * 0x0001_0000
-        + register(one) as u64 * 0x1000
+    let before = u64::from(indexed(said));
+    let back = u64::from(has(said.line, b'!'));
+    let rn = u64::from(register(said.two));
+    let rd = u64::from(register(said.one));
+    said.bits() + before * 0x0100_0000 + back * 0x0020_0000 + rn * 0x0001_0000 + rd * 0x1000
 }
 
 // Whether a number is added.
-fn is_added(form: Form, zero: bool, minus: bool, v: u64) -> bool
+fn is_added(form: Form, zero: bool, minus: bool, v: u32) -> bool
     ensures { result ≡ is_added form zero minus v }
 {
     match form {
-        Form::Bench => {
-            if v == 0 {
-                return zero;
-            }
-            v < 0x1000
-        }
+        Form::Bench => { if v == 0 { zero } else { v < 0x1000 } }
         Form::Sheet => !minus,
     }
 }
 
 // How large it is.
-fn size_of(form: Form, up: bool, v: u64) -> u64
-    requires { v < 2 ^ 32 }
-    ensures { (result ≡ size_of form up v) × (result < 2 ^ 32) }
+fn size_of(form: Form, up: bool, v: u32) -> u32
+    ensures { result ≡ size_of form up v }
 {
     match form {
-        Form::Bench => {
-            if up {
-                return v;
-            }
-            (0x1_0000_0000 - v) % 0x1_0000_0000
-        }
+        Form::Bench => { if up { v } else { v.wrapping_neg() } }
         Form::Sheet => v,
     }
 }
 
 // U and the offset of ldr and str.
-fn ldr_offset(form: Form, line: &[u8], three: &[u8]) -> u64
-    requires { three.now ≡ after (after (after line.now)) }
-    ensures { (result ≡ ldr_offset form line.now) × (result < 2 ^ 27) }
+fn ldr_offset(said: &Said) -> u64
+    ensures { (result ≡ ldr_offset said.now.form said.now.line.now) × (result < 2 ^ 27) }
 {
-    let minus = line.contains(&b'-');
+    let minus = has(said.line, b'-');
+    let three = said.three();
     let w = first_word(three);
     if is_number(w) {
-        let v = read_number::<10>(w) as u64;
-        let up = is_added(form, false, minus, v);
-        return as_flag(up) * 0x0080_0000 + size_of(form, up, v) % 0x1000;
+        let v = read_number::<10>(w);
+        let up = is_added(said.form, false, minus, v);
+        return u64::from(up) * 0x0080_0000 + u64::from(size_of(said.form, up, v)) % 0x1000;
     }
-    0x0200_0000 + as_flag(!minus) * 0x0080_0000 + shifted(three)
+    0x0200_0000 + u64::from(!minus) * 0x0080_0000 + shifted(three)
 }
 
 // ldr and str.
-pub fn ldr_candidate(form: Form, b: u64, c: u64, line: &[u8]) -> u64
-    requires { (b < 2 ^ 25) × (c ≤ 15) }
-    ensures { (pc : ℕ) → result ≡ ldr_cand form pc b c line.now }
+pub fn ldr_candidate(said: &Said) -> u64
+    ensures { result ≡ of_said ldr_cand said.now }
 {
-    let one = next_word(line);
-    let two = next_word(one);
-    let three = next_word(two);
-    let base = base_in(b, line, one, two);
-    c * 0x1000_0000 + 0x0400_0000 + base + ldr_offset(form, line, three)
+    said.condition() * 0x1000_0000 + 0x0400_0000 + base_in(said) + ldr_offset(said)
 }
 
 // U and the offset of a halfword transfer.
-fn half_offset(form: Form, zero: bool, line: &[u8], three: &[u8]) -> u64
-    requires { three.now ≡ after (after (after line.now)) }
-    ensures { (result ≡ half_offset form zero line.now) × (result < 2 ^ 27) }
+fn half_offset(zero: bool, said: &Said) -> u64
+    ensures { (result ≡ half_offset said.now.form zero said.now.line.now) × (result < 2 ^ 27) }
 {
-    let minus = line.contains(&b'-');
+    let minus = has(said.line, b'-');
+    let three = said.three();
     let w = first_word(three);
     if is_number(w) {
-        let v = read_number::<10>(w) as u64;
-        let up = is_added(form, zero, minus, v);
-        let n = size_of(form, up, v);
-        return 0x0040_0000 + as_flag(up) * 0x0080_0000 + n / 16 % 16 * 256 + n % 16;
+        let v = read_number::<10>(w);
+        let up = is_added(said.form, zero, minus, v);
+        let n = u64::from(size_of(said.form, up, v));
+        return 0x0040_0000 + u64::from(up) * 0x0080_0000 + n / 16 % 16 * 256 + n % 16;
     }
-    as_flag(!minus) * 0x0080_0000 + register(three) as u64
+    u64::from(!minus) * 0x0080_0000 + u64::from(register(three))
 }
 
 // Halfword transfers. Where bits 24-12 are those of a move to flags, U set tells it from that.
-pub fn half_candidate(form: Form, b: u64, c: u64, line: &[u8]) -> u64
-    requires { (b < 2 ^ 25) × (c ≤ 15) }
-    ensures { (pc : ℕ) → result ≡ half_cand form pc b c line.now }
+pub fn half_candidate(said: &Said) -> u64
+    ensures { result ≡ of_said half_cand said.now }
 {
-    let one = next_word(line);
-    let two = next_word(one);
-    let three = next_word(two);
-    let base = base_in(b, line, one, two);
+    let base = base_in(said);
     let flags = base / 0x1000 == 0x128f;
-    c * 0x1000_0000 + 0x90 + base + half_offset(form, flags, line, three)
+    said.condition() * 0x1000_0000 + 0x90 + base + half_offset(flags, said)
 }

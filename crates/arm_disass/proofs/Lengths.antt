@@ -1,20 +1,19 @@
 -- A line has from 5 to 80 bytes. Assumes nothing.
-use Prim.Native.Nat.{◌-◌, ◌≤◌, ℕ}
+use Prim.Native.Nat.{ℕ}
 use mathlib.Core.Bool.{◌&&◌, not}
 use native.Mathlib.Omega.{arith}
 use Rattle.std.proofs.Common.{Option, Some, None}
 use Rattle.lines.proofs.Address.{address_within}
 use Rattle.lines.proofs.Lengths.{cond_at_within, either_within, if_set_within, reg_at_within, registers_within}
-use Rattle.arm7tdmi.specs.Alu.{alu_op_code, decode_rotated_immediate, is_setting_flags}
+use Rattle.arm7tdmi.specs.Alu.{alu_op_code, decode_rotated_immediate, is_move, is_setting_flags}
 use Rattle.arm.specs.Fields.{branch_target, halfword_type, ldr_str_hs_imm_offset, ldr_str_hs_reg_offset, ldr_str_offset, operand2}
 use Rattle.arm7tdmi.specs.Names.{reg_names, reg_string}
-use Rattle.lines.specs.Pieces.{reg_at}
 use Rattle.arm7tdmi.specs.declared.Form.{Form}
 use Rattle.arm7tdmi.specs.declared.Form.TheVariants.{Bench, Sheet}
 use Rattle.arm7tdmi.specs.declared.alu.AluOpCode.{AluOpCode}
 use Rattle.arm7tdmi.specs.declared.alu.BarrelShifterValue.{BarrelShifterValue}
 use Rattle.arm.specs.declared.ArmFormat.{ArmFormat}
-use Rattle.arm_disass.specs.Line.{bx_cond, cond_mark, fmt_branch, fmt_bx, fmt_data_processing, fmt_halfword, fmt_ldm_stm, fmt_ldr_str, fmt_ldr_str_hs_imm_offset, fmt_ldr_str_hs_reg_offset, fmt_move, fmt_mrs, fmt_msr, fmt_msr_flags, fmt_mul_mla, fmt_mull_mlal, fmt_opcode, fmt_swi, fmt_swp, fmt_test, fmt_three, halfword_text, is_move, op_text, user_mark, line_of}
+use Rattle.arm_disass.specs.Line.{bx_cond, cond_mark, fmt_branch, fmt_bx, fmt_data_processing, fmt_halfword, fmt_ldm_stm, fmt_ldr_str, fmt_ldr_str_hs_imm_offset, fmt_ldr_str_hs_reg_offset, fmt_move, fmt_mrs, fmt_msr, fmt_msr_flags, fmt_mul_mla, fmt_mull_mlal, fmt_opcode, fmt_swi, fmt_swp, fmt_test, fmt_three, halfword_text, op_text, user_mark, line_of}
 use Rattle.common.specs.Bits.{bit, bit_range}
 use Rattle.text.proofs.Within.{Within, ◌&◌, exactly, loosely, none, of_two, or_none, prefixed_within}
 use Rattle.text.specs.Text.{text}
@@ -26,9 +25,6 @@ use Rattle.arm_operand.proofs.Lengths.{added, flags_within, operand, rd, rn_offs
 
 mark : (raw : ℕ) → Within 0 2 (cond_mark raw)
 mark raw = cond_at_within raw 28 32
-
-reg : (raw a b : ℕ) → b - a ≤ 4 → Within 2 3 (reg_at raw a b)
-reg raw a b h = reg_at_within raw a b h
 
 -- ---- lines
 opcode : (op : AluOpCode) → Within 3 3 (op_text op)
@@ -56,9 +52,9 @@ op_head form raw op =
     of_two (is_move op)
     (loosely (opcode op & if_set_within raw 20 (exactly (text "s")) & mark raw & exactly (text "\t") & rd form raw & exactly (text ", ")) (omega arith) (omega arith))
     (of_two (is_setting_flags op)
-    (loosely (opcode op & mark raw & exactly (text "\t") & reg raw 16 20 (omega arith) & exactly (text ", ")) (omega arith) (omega arith))
+    (loosely (opcode op & mark raw & exactly (text "\t") & reg_at_within raw 16 20 (omega arith) & exactly (text ", ")) (omega arith) (omega arith))
     (loosely
-    (opcode op & if_set_within raw 20 (exactly (text "s")) & mark raw & exactly (text "\t") & rd form raw & exactly (text ", ") & reg raw 16 20 (omega arith) & exactly (text ", "))
+    (opcode op & if_set_within raw 20 (exactly (text "s")) & mark raw & exactly (text "\t") & rd form raw & exactly (text ", ") & reg_at_within raw 16 20 (omega arith) & exactly (text ", "))
     (omega arith) (omega arith)))
 
 halfword : (t : Option ArmHalfwordTransferType) → Within 0 2 (halfword_text t)
@@ -72,7 +68,7 @@ half_line : (form : Form) (pc raw : ℕ) (o : BarrelShifterValue) → Within 5 8
 unfolding fmt_halfword
 half_line form pc raw o =
     loosely
-    (either_within raw 20 (exactly (text "ldr")) (exactly (text "str")) & halfword (halfword_type raw) & mark raw & exactly (text "\t") & reg raw 12 16 (omega arith) & exactly (text ", ")
+    (either_within raw 20 (exactly (text "ldr")) (exactly (text "str")) & halfword (halfword_type raw) & mark raw & exactly (text "\t") & reg_at_within raw 12 16 (omega arith) & exactly (text ", ")
     & rn_offset form pc raw o)
     (omega arith) (omega arith)
 
@@ -93,7 +89,7 @@ ldm raw =
     & either_within raw 24 (exactly (text "b")) (exactly (text "a"))
     & mark raw
     & exactly (text "\t")
-    & reg raw 16 20 (omega arith)
+    & reg_at_within raw 16 20 (omega arith)
     & if_set_within raw 21 (exactly (text "!"))
     & exactly (text ", {")
     & registers_within raw 16
@@ -104,7 +100,7 @@ ldm raw =
 -- document 01: "A line has from 5 to 80 bytes"
 pub line_within : (form : Form) (fmt : ArmFormat) (pc raw : ℕ) → Within 5 80 (line_of form fmt pc raw)
 unfolding line_of fmt_bx fmt_branch fmt_swi fmt_mul_mla fmt_mull_mlal fmt_ldr_str fmt_ldr_str_hs_reg_offset fmt_ldr_str_hs_imm_offset fmt_data_processing fmt_swp fmt_mrs fmt_msr fmt_msr_flags
-line_within form A.BranchExchange pc raw = loosely (exactly (text "bx") & bx_cond_lem form raw & exactly (text "\t") & reg raw 0 4 (omega arith)) (omega arith) (omega arith)
+line_within form A.BranchExchange pc raw = loosely (exactly (text "bx") & bx_cond_lem form raw & exactly (text "\t") & reg_at_within raw 0 4 (omega arith)) (omega arith) (omega arith)
 line_within form A.BranchLink pc raw =
     loosely (exactly (text "b") & if_set_within raw 24 (exactly (text "l")) & mark raw & exactly (text "\t") & address_within form (branch_target pc raw))
     (omega arith) (omega arith)
@@ -112,11 +108,11 @@ line_within form A.SoftwareInterrupt pc raw =
     loosely (exactly (text "swi") & mark raw & exactly (text "\t#") & prefixed_within 1 (bit_range raw 0 24) (omega arith)) (omega arith) (omega arith)
 line_within form A.Multiply pc raw =
     loosely
-    (either_within raw 21 (exactly (text "mla")) (exactly (text "mul")) & if_set_within raw 20 (exactly (text "s")) & mark raw & exactly (text "\t") & reg raw 16 20 (omega arith)
+    (either_within raw 21 (exactly (text "mla")) (exactly (text "mul")) & if_set_within raw 20 (exactly (text "s")) & mark raw & exactly (text "\t") & reg_at_within raw 16 20 (omega arith)
     & exactly (text ", ")
-    & reg raw 0 4 (omega arith)
+    & reg_at_within raw 0 4 (omega arith)
     & exactly (text ", ")
-    & reg raw 8 12 (omega arith)
+    & reg_at_within raw 8 12 (omega arith)
     & added raw)
     (omega arith) (omega arith)
 line_within form A.MultiplyLong pc raw =
@@ -124,17 +120,17 @@ line_within form A.MultiplyLong pc raw =
     (either_within raw 22 (exactly (text "s")) (exactly (text "u")) & either_within raw 21 (exactly (text "mlal")) (exactly (text "mull")) & if_set_within raw 20 (exactly (text "s"))
     & mark raw
     & exactly (text "\t")
-    & reg raw 12 16 (omega arith)
+    & reg_at_within raw 12 16 (omega arith)
     & exactly (text ", ")
-    & reg raw 16 20 (omega arith)
+    & reg_at_within raw 16 20 (omega arith)
     & exactly (text ", ")
-    & reg raw 0 4 (omega arith)
+    & reg_at_within raw 0 4 (omega arith)
     & exactly (text ", ")
-    & reg raw 8 12 (omega arith))
+    & reg_at_within raw 8 12 (omega arith))
     (omega arith) (omega arith)
 line_within form A.SingleDataTransfer pc raw =
     loosely
-    (either_within raw 20 (exactly (text "ldr")) (exactly (text "str")) & if_set_within raw 22 (exactly (text "b")) & user raw & mark raw & exactly (text "\t") & reg raw 12 16 (omega arith)
+    (either_within raw 20 (exactly (text "ldr")) (exactly (text "str")) & if_set_within raw 22 (exactly (text "b")) & user raw & mark raw & exactly (text "\t") & reg_at_within raw 12 16 (omega arith)
     & exactly (text ", ")
     & rn_offset form pc raw (ldr_str_offset raw))
     (omega arith) (omega arith)
@@ -144,14 +140,14 @@ line_within form A.DataProcessing pc raw = loosely (op_head form raw (alu_op_cod
 line_within form A.BlockDataTransfer pc raw = ldm raw
 line_within form A.SingleDataSwap pc raw =
     loosely
-    (exactly (text "swp") & if_set_within raw 22 (exactly (text "b")) & mark raw & exactly (text "\t") & reg raw 12 16 (omega arith) & exactly (text ", ") & reg raw 0 4 (omega arith)
+    (exactly (text "swp") & if_set_within raw 22 (exactly (text "b")) & mark raw & exactly (text "\t") & reg_at_within raw 12 16 (omega arith) & exactly (text ", ") & reg_at_within raw 0 4 (omega arith)
     & exactly (text ", [")
-    & reg raw 16 20 (omega arith)
+    & reg_at_within raw 16 20 (omega arith)
     & exactly (text "]"))
     (omega arith) (omega arith)
 line_within form A.MoveFromStatus pc raw =
     loosely
-    (exactly (text "mrs") & mark raw & exactly (text "\t") & reg raw 12 16 (omega arith) & exactly (text ", ") & either_within raw 22 (exactly (text "SPSR")) (exactly (text "CPSR")))
+    (exactly (text "mrs") & mark raw & exactly (text "\t") & reg_at_within raw 12 16 (omega arith) & exactly (text ", ") & either_within raw 22 (exactly (text "SPSR")) (exactly (text "CPSR")))
     (omega arith) (omega arith)
 line_within form A.MoveToStatus pc raw =
     loosely

@@ -1,13 +1,13 @@
 -- The lines of ARM words, bench and sheet: one definition for each `fmt_` function of the Rust's arm/disass.rs, in its order, with the Rust's
 -- format beside it. The form stands where the sheet line differs: S3 of document 01 (S1, S4 and S10 are an operand's, S2 the kind's), and S9
 -- where an address is shown. Assumes nothing.
-use Rattle.std.specs.Prelude.{Bool, true, false, cond, ◌&&◌, not, List, [], ◌++◌, ℕ, Option, Some, None}
+use Rattle.std.specs.Prelude.{cond, ◌&&◌, not, List, [], ◌++◌, ℕ, Option, Some, None}
 use Rattle.common.specs.Bits.{bit, bit_range}
 use Rattle.text.specs.Text.{text}
 use Rattle.text.specs.Digits.{prefixed}
 use Rattle.lines.specs.Address.{address}
 use Rattle.lines.specs.Pieces.{reg_at, cond_at, either, if_set, registers}
-use Rattle.arm7tdmi.specs.Alu.{alu_op_code, is_setting_flags, decode_rotated_immediate}
+use Rattle.arm7tdmi.specs.Alu.{alu_op_code, is_move, is_setting_flags, decode_rotated_immediate}
 use Rattle.arm.specs.Fields.{branch_target, operand2, ldr_str_offset, ldr_str_hs_imm_offset, ldr_str_hs_reg_offset, halfword_type}
 use Rattle.arm7tdmi.specs.declared.Form.{Form}
 use Rattle.arm7tdmi.specs.declared.Form.TheVariants.{Bench, Sheet}
@@ -73,24 +73,6 @@ fmt_test raw op = op_text op ++ cond_mark raw ++ text "\t" ++ reg_at raw 16 20 +
 unfoldable pub fmt_three : Form → ℕ → AluOpCode → List ℕ
 fmt_three form raw op =
     op_text op ++ if_set raw 20 (text "s") ++ cond_mark raw ++ text "\t" ++ rd_text form raw ++ text ", " ++ reg_at raw 16 20 ++ text ", "
-
-abbrev pub is_move : AluOpCode → Bool
-is_move Op.AND = false
-is_move Op.EOR = false
-is_move Op.SUB = false
-is_move Op.RSB = false
-is_move Op.ADD = false
-is_move Op.ADC = false
-is_move Op.SBC = false
-is_move Op.RSC = false
-is_move Op.TST = false
-is_move Op.TEQ = false
-is_move Op.CMP = false
-is_move Op.CMN = false
-is_move Op.ORR = false
-is_move Op.MOV = true
-is_move Op.BIC = false
-is_move Op.MVN = true
 
 unfoldable pub fmt_opcode : Form → ℕ → AluOpCode → List ℕ
 fmt_opcode form raw op = cond (is_move op) (fmt_move form raw op) (cond (is_setting_flags op) (fmt_test raw op) (fmt_three form raw op))

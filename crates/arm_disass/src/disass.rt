@@ -1,8 +1,8 @@
-// One function for each `fmt_` function of the Rust, in its order.
+// One function for each `fmt_` function of the Rust, in its order. Of form, address and word each takes what its line shows, so they are no struct.
 ghost use Rattle.std.specs.Prelude.{◌≡◌, ◌++◌};
 ghost use Rattle.text.specs.Text.{text};
 ghost use Rattle.text.specs.Puts.{puts};
-ghost use Rattle.arm_disass.specs.Line.{cond_mark, op_text, halfword_text, bx_cond, fmt_bx, fmt_branch, fmt_move, fmt_test, fmt_three, is_move, fmt_opcode, fmt_data_processing, user_mark, fmt_ldr_str, fmt_ldm_stm, fmt_mrs, fmt_msr, fmt_msr_flags, fmt_mul_mla, fmt_mull_mlal, fmt_halfword, fmt_ldr_str_hs_imm_offset, fmt_ldr_str_hs_reg_offset, fmt_swi, fmt_swp};
+ghost use Rattle.arm_disass.specs.Line.{cond_mark, op_text, halfword_text, bx_cond, fmt_bx, fmt_branch, fmt_move, fmt_test, fmt_three, fmt_opcode, fmt_data_processing, user_mark, fmt_ldr_str, fmt_ldm_stm, fmt_mrs, fmt_msr, fmt_msr_flags, fmt_mul_mla, fmt_mull_mlal, fmt_halfword, fmt_ldr_str_hs_imm_offset, fmt_ldr_str_hs_reg_offset, fmt_swi, fmt_swp};
 
 use arm::{
     ArmHalfwordTransferType, branch_target, halfword_data_transfer_type, ldr_str_hs_imm_offset,
@@ -88,7 +88,7 @@ pub fn fmt_branch(out: &mut Writer<'_>, form: Form, pc: u32, raw: u32)
     put_address(out, form, target);
 }
 
-// mov and mvn.
+// mov and mvn. The Rust has a format for these, one for the tests and one for the others.
 fn fmt_move(out: &mut Writer<'_>, form: Form, raw: u32, op: AluOpCode)
     ensures { out.new ≡ puts out.old (fmt_move form raw op) }
 {
@@ -120,16 +120,10 @@ fn fmt_three(out: &mut Writer<'_>, form: Form, raw: u32, op: AluOpCode)
     put_reg_comma(out, raw, 16, 20);
 }
 
-fn is_move(op: AluOpCode) -> bool
-    ensures { result ≡ is_move op }
-{
-    matches!(op, AluOpCode::MOV | AluOpCode::MVN)
-}
-
 fn fmt_opcode(out: &mut Writer<'_>, form: Form, raw: u32, op: AluOpCode)
     ensures { out.new ≡ puts out.old (fmt_opcode form raw op) }
 {
-    if is_move(op) {
+    if op.is_move() {
         fmt_move(out, form, raw, op);
     } else if op.is_setting_flags() {
         fmt_test(out, raw, op);

@@ -7,12 +7,12 @@ use mathlib.Core.List.{List, [], ◌++◌, ◌∷◌}
 use mathlib.Core.Path.{◌∙◌, ◌≡◌, ap, refl, sym}
 use native.Mathlib.Omega.{arith}
 use Rattle.arm7tdmi.proofs.Names.{reg_back, reg_wordy}
-use Rattle.arm7tdmi.specs.Alu.{alu_op_code}
+use Rattle.arm7tdmi.specs.Alu.{alu_op_code, is_move}
 use Rattle.arm7tdmi.specs.Names.{cond_text, reg_string}
 use Rattle.lines.specs.Pieces.{cond_at, if_set, reg_at}
 use Rattle.arm7tdmi.specs.declared.Form.TheVariants.{Bench, Sheet}
 use Rattle.arm7tdmi.specs.declared.Form.{Form}
-use Rattle.arm_disass.specs.Line.{fmt_data_processing, fmt_move, fmt_opcode, fmt_test, fmt_three, is_move, op_text, line_of}
+use Rattle.arm_disass.specs.Line.{fmt_data_processing, fmt_move, fmt_opcode, fmt_test, fmt_three, op_text, line_of}
 use Rattle.arm_operand.specs.Operand.{rd_text}
 use Rattle.arm_lowest.proofs.Found.{Law, fifteen, least_found, pieces_read, printed_line}
 use Rattle.arm_lowest.proofs.Heads.{Mnemonic, dp_reads, dp_bits, dp_stem, pick}

@@ -1,7 +1,7 @@
 // The mnemonics, and what each says: its family and its bits. A `match`, since an array would be copied at each call.
 #![tactic(auto)]
 
-ghost use Rattle.std.specs.Prelude.{map, ◌≡◌, ◌≤◌, ◌<◌, ◌^◌};
+ghost use Rattle.std.specs.Prelude.{map, ◌≡◌, ◌<◌, ◌^◌};
 ghost use Rattle.arm_mnemonic.specs.Heads.{stem_names};
 ghost use Rattle.arm_mnemonic.specs.Stems.{head_at, is_mnemonic};
 ghost use Rattle.common.specs.Lists.{find, place};
@@ -9,8 +9,8 @@ ghost use Rattle.text.specs.Word.{packed};
 
 use text::read::pack;
 
-// The words of one kind, and none for a word that is no mnemonic.
-#[derive(Clone, Copy)]
+// The words of one kind, and none for a word that is no mnemonic. No `Option`: a line with no mnemonic has a candidate too, that of `<Undefined>`.
+#[derive(Clone, Copy, Debug, PartialEq, Eq)]
 pub enum Family {
     DataProcessing,
     Branch,
@@ -28,7 +28,7 @@ pub enum Family {
 }
 
 // What a mnemonic says.
-#[derive(Clone, Copy)]
+#[derive(Clone, Copy, Debug, PartialEq, Eq)]
 pub struct Head {
     pub family: Family,
     pub bits: u32,
@@ -38,10 +38,7 @@ impl Head {
     pub fn is_mnemonic(self) -> bool
         ensures { result ≡ is_mnemonic self }
     {
-        match self.family {
-            Family::Nothing => false,
-            _ => true,
-        }
+        !matches!(self.family, Family::Nothing)
     }
 }
 
@@ -51,10 +48,9 @@ fn says(family: Family, bits: u32) -> Head
     Head { family, bits }
 }
 
-// Mnemonics of at most three letters, packed.
+// What a packed word says. By a number, of which a `match` is a search by halves; a text would be compared with one name after the other.
 #[tactic(auto, unfolding(common::specs::Lists::first, text::specs::Word::packed, crate::specs::Heads::stem_names, crate::specs::Heads::stems))]
-fn short_head(n: u64) -> Head
-    requires { n < 2 ^ 24 }
+fn head_packed(n: u64) -> Head
     ensures { result ≡ head_at (find n (map packed stem_names)) }
 {
     match n {
@@ -74,28 +70,6 @@ fn short_head(n: u64) -> Head
         0x76_6f6d => says(Family::DataProcessing, 0x01a0_0000), // mov
         0x63_6962 => says(Family::DataProcessing, 0x01c0_0000), // bic
         0x6e_766d => says(Family::DataProcessing, 0x01e0_0000), // mvn
-        0x62 => says(Family::Branch, 0x0000_0000), // b
-        0x6c62 => says(Family::Branch, 0x0100_0000), // bl
-        0x7862 => says(Family::BranchExchange, 0x0000_0000), // bx
-        0x72_646c => says(Family::Transfer, 0x0010_0000), // ldr
-        0x72_7473 => says(Family::Transfer, 0x0000_0000), // str
-        0x73_726d => says(Family::Mrs, 0x0000_0000), // mrs
-        0x72_736d => says(Family::Msr, 0x0000_0000), // msr
-        0x6c_756d => says(Family::Multiply, 0x0000_0000), // mul
-        0x61_6c6d => says(Family::Multiply, 0x0020_0000), // mla
-        0x69_7773 => says(Family::Swi, 0x0000_0000), // swi
-        0x70_7773 => says(Family::Swap, 0x0000_0000), // swp
-        _ => says(Family::Nothing, 0),
-    }
-}
-
-// Of four letters.
-#[tactic(auto, unfolding(common::specs::Lists::first, text::specs::Word::packed, crate::specs::Heads::stem_names, crate::specs::Heads::stems))]
-fn four_head(n: u64) -> Head
-    requires { (2 ^ 24 ≤ n) × (n < 2 ^ 32) }
-    ensures { result ≡ head_at (find n (map packed stem_names)) }
-{
-    match n {
         0x7364_6e61 => says(Family::DataProcessing, 0x0010_0000), // ands
         0x7372_6f65 => says(Family::DataProcessing, 0x0030_0000), // eors
         0x7362_7573 => says(Family::DataProcessing, 0x0050_0000), // subs
@@ -108,27 +82,16 @@ fn four_head(n: u64) -> Head
         0x7376_6f6d => says(Family::DataProcessing, 0x01b0_0000), // movs
         0x7363_6962 => says(Family::DataProcessing, 0x01d0_0000), // bics
         0x736e_766d => says(Family::DataProcessing, 0x01f0_0000), // mvns
+        0x62 => says(Family::Branch, 0x0000_0000), // b
+        0x6c62 => says(Family::Branch, 0x0100_0000), // bl
+        0x7862 => says(Family::BranchExchange, 0x0000_0000), // bx
+        0x72_646c => says(Family::Transfer, 0x0010_0000), // ldr
         0x7472_646c => says(Family::Transfer, 0x0030_0000), // ldrt
         0x6272_646c => says(Family::Transfer, 0x0050_0000), // ldrb
+        0x74_6272_646c => says(Family::Transfer, 0x0070_0000), // ldrbt
+        0x72_7473 => says(Family::Transfer, 0x0000_0000), // str
         0x7472_7473 => says(Family::Transfer, 0x0020_0000), // strt
         0x6272_7473 => says(Family::Transfer, 0x0040_0000), // strb
-        0x736c_756d => says(Family::Multiply, 0x0010_0000), // muls
-        0x7361_6c6d => says(Family::Multiply, 0x0030_0000), // mlas
-        0x6872_646c => says(Family::HalfTransfer, 0x0010_0020), // ldrh
-        0x6872_7473 => says(Family::HalfTransfer, 0x0000_0020), // strh
-        0x6270_7773 => says(Family::Swap, 0x0040_0000), // swpb
-        _ => says(Family::Nothing, 0),
-    }
-}
-
-// Of five and six.
-#[tactic(auto, unfolding(common::specs::Lists::first, text::specs::Word::packed, crate::specs::Heads::stem_names, crate::specs::Heads::stems))]
-fn long_head(n: u64) -> Head
-    requires { 2 ^ 32 ≤ n }
-    ensures { result ≡ head_at (find n (map packed stem_names)) }
-{
-    match n {
-        0x74_6272_646c => says(Family::Transfer, 0x0070_0000), // ldrbt
         0x74_6272_7473 => says(Family::Transfer, 0x0060_0000), // strbt
         0x62_696d_646c => says(Family::BlockTransfer, 0x0190_0000), // ldmib
         0x61_696d_646c => says(Family::BlockTransfer, 0x0090_0000), // ldmia
@@ -138,6 +101,12 @@ fn long_head(n: u64) -> Head
         0x61_696d_7473 => says(Family::BlockTransfer, 0x0080_0000), // stmia
         0x62_646d_7473 => says(Family::BlockTransfer, 0x0100_0000), // stmdb
         0x61_646d_7473 => says(Family::BlockTransfer, 0x0000_0000), // stmda
+        0x73_726d => says(Family::Mrs, 0x0000_0000), // mrs
+        0x72_736d => says(Family::Msr, 0x0000_0000), // msr
+        0x6c_756d => says(Family::Multiply, 0x0000_0000), // mul
+        0x736c_756d => says(Family::Multiply, 0x0010_0000), // muls
+        0x61_6c6d => says(Family::Multiply, 0x0020_0000), // mla
+        0x7361_6c6d => says(Family::Multiply, 0x0030_0000), // mlas
         0x6c_6c75_6d75 => says(Family::MultiplyLong, 0x0000_0000), // umull
         0x736c_6c75_6d75 => says(Family::MultiplyLong, 0x0010_0000), // umulls
         0x6c_616c_6d75 => says(Family::MultiplyLong, 0x0020_0000), // umlal
@@ -146,10 +115,15 @@ fn long_head(n: u64) -> Head
         0x736c_6c75_6d73 => says(Family::MultiplyLong, 0x0050_0000), // smulls
         0x6c_616c_6d73 => says(Family::MultiplyLong, 0x0060_0000), // smlal
         0x736c_616c_6d73 => says(Family::MultiplyLong, 0x0070_0000), // smlals
+        0x6872_646c => says(Family::HalfTransfer, 0x0010_0020), // ldrh
         0x62_7372_646c => says(Family::HalfTransfer, 0x0010_0040), // ldrsb
         0x68_7372_646c => says(Family::HalfTransfer, 0x0010_0060), // ldrsh
+        0x6872_7473 => says(Family::HalfTransfer, 0x0000_0020), // strh
         0x62_7372_7473 => says(Family::HalfTransfer, 0x0000_0040), // strsb
         0x68_7372_7473 => says(Family::HalfTransfer, 0x0000_0060), // strsh
+        0x69_7773 => says(Family::Swi, 0x0000_0000), // swi
+        0x70_7773 => says(Family::Swap, 0x0000_0000), // swp
+        0x6270_7773 => says(Family::Swap, 0x0040_0000), // swpb
         _ => says(Family::Nothing, 0),
     }
 }
@@ -158,12 +132,5 @@ fn long_head(n: u64) -> Head
 pub fn head_of(w: &[u8]) -> Head
     ensures { (result ≡ head_at (place stem_names w.now)) × (result.bits < 2 ^ 25) }
 {
-    let n = pack(w);
-    if n < 0x0100_0000 {
-        return short_head(n);
-    }
-    if n < 0x1_0000_0000 {
-        return four_head(n);
-    }
-    long_head(n)
+    head_packed(pack(w))
 }

@@ -16,7 +16,7 @@ use refusal::Refusal;
 use text::put::Writer;
 
 // The line of a word of a kind at an address. Thumb has one of its own (`thumb_print`): the kinds are other types, and what writes their lines is other code.
-#[derive(Clone, Copy)]
+#[derive(Clone, Copy, Debug, PartialEq, Eq)]
 struct ArmLine {
     form: Form,
     fmt: ArmFormat,
@@ -55,7 +55,7 @@ fn is_halfword(fmt: ArmFormat) -> bool
     )
 }
 
-// Whether a word's condition is printed and is 1111.
+// Whether a word's condition is printed and is 1111. This test and the next are on the bits, as the refusals are defined by them.
 fn lacks_cond(form: Form, fmt: ArmFormat, raw: u32) -> bool
     ensures { result ≡ lacks_cond form fmt raw }
 {

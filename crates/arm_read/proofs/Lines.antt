@@ -6,7 +6,6 @@ use lib.ListN.{length}
 use mathlib.Core.Bool.{◌&&◌, false, true}
 use mathlib.Core.List.{List}
 use mathlib.Core.Path.{◌≡◌, refl}
-use native.Mathlib.Omega.{arith}
 use Rattle.lines.specs.Answer.{Answer, line, refused}
 use Rattle.arm.specs.Kinds.{arm_format}
 use Rattle.arm7tdmi.specs.declared.Form.{Form}
@@ -20,7 +19,6 @@ use Rattle.common.proofs.Lists.{other}
 use Rattle.common.proofs.Tests.{by_test}
 use Rattle.common.specs.Bits.{bit_range}
 use Rattle.reading.specs.Read.{is_line}
-use Rattle.reading.specs.Shown.{Short}
 use Rattle.text.proofs.Within.{Within}
 
 -- a line has from 5 to 80 bytes
@@ -35,13 +33,6 @@ arm_sound form pc w =
     by_test (prints_cond form f && eqb (bit_range w 28 32) 15)
     (λ e. rw e tt)
     (λ e. rw e (by_test (is_halfword f && eqb (bit_range w 5 7) 0) (λ d. rw d tt) (λ d. rw d (line_within form f pc w))))
-
-short_of : (a : Answer) → Sound a → Short a
-short_of (refused r) s = tt
-short_of (line t) s = s.most
-
-pub arm_short : (form : Form) (pc w : ℕ) → Short (arm_line form pc w)
-arm_short form pc w = short_of (arm_line form pc w) (arm_sound form pc w)
 
 -- a line of another length is the line of no word
 pub not_line : (a : Answer) (l : List ℕ) → Sound a → (5 ≤ length l → length l ≤ 80 → ⊥) → is_line a l ≡ false

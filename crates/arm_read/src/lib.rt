@@ -3,21 +3,33 @@
 
 ghost use Rattle.std.specs.Prelude.{◌≡◌};
 ghost use Rattle.arm_print.specs.Print.{arm_line};
-ghost use Rattle.reading.specs.Read.{is_line};
+ghost use Rattle.arm_print.proofs.Whole.{arm_whole};
+ghost use Rattle.reading.proofs.Scratch.{short_of};
 ghost use Rattle.arm_read.specs.Answer.{read_answer};
 
 use arm_candidate::candidate_of;
 use arm_print::print_arm;
 use arm7tdmi::Form;
-use reading::shown::{LINE, is_shown};
+use lines::LINE;
+use reading::shown::{Candidate, prints};
+use refusal::Refusal;
 
-// Whether a word prints a line.
-fn prints(form: Form, word: u32, pc: u32, line: &[u8]) -> bool
-    ensures { result ≡ is_line (arm_line form pc word) line.now }
-{
-    let mut scratch = [0u8; LINE];
-    let printed = print_arm(form, word, pc, &mut scratch);
-    is_shown(printed, &scratch, line)
+// A word at an address that may print a line. Thumb has one of its own (`thumb_read`), since each set's print, and the proof that its lines are short, is its own.
+#[derive(Clone, Copy, Debug, PartialEq, Eq)]
+struct ArmWord {
+    form: Form,
+    pc: u32,
+    word: u32,
+}
+
+impl Candidate for ArmWord {
+    ghost answer = { λ w. arm_line w.form w.pc w.word };
+
+    fn print(&self, buf: &mut [u8]) -> Result<usize, Refusal> {
+        print_arm(self.form, self.word, self.pc, buf)
+    }
+
+    ghost short = { λ w. short_of (arm_line w.form w.pc w.word) (arm_whole w.form w.pc w.word) };
 }
 
 // Reads a line at an address: the lowest word that prints it, or none.
@@ -31,7 +43,8 @@ pub fn read_arm(form: Form, address: u32, line: &[u8]) -> Option<u32>
         return None;
     }
     let word = candidate_of(form, address, line);
-    if prints(form, word, address, line) {
+    let pc = address;
+    if prints(&ArmWord { form, pc, word }, line) {
         return Some(word);
     }
     None

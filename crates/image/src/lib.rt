@@ -1,32 +1,35 @@
 // An image of words: its bytes, its Thumb stretches, which set holds at a place, and what is refused.
 #![tactic(auto)]
 
-ghost use Rattle.std.specs.Prelude.{ℕ, ◌≡◌, ◌+◌, ◌/◌, ◌<◌, ◌≤◌, length, slice_index};
+ghost use Rattle.std.specs.Prelude.{ℕ, ◌≡◌, ◌+◌, ◌/◌, ◌<◌, ◌≤◌, ◌&&◌, length, nat_lt, slice_get, slice_index};
 ghost use Rattle.image.specs.Bytes.{half, word};
 ghost use Rattle.image.specs.Stretches.{pair_at, pairs, end, left, first_left, set_at};
-ghost use Rattle.image.specs.Refusal.{unit, wrong_image, wrong_pair, wrong_pairs, wrong_list, wrong_place, refusal, refusal_at};
+ghost use Rattle.image.specs.Refusal.{unit, wrong_image, end_of, wrong_pair, wrong_pairs, wrong_list, wrong_place, refusal, refusal_at};
 
 use refusal::Refusal;
 
 // The set at a place; for Thumb, with the end of its stretch. An enum and no `Option`: ARM is a set of words, and not the lack of one.
-#[derive(Clone, Copy)]
+#[derive(Clone, Copy, Debug, PartialEq, Eq)]
 pub enum Set {
     Arm,
     Thumb(usize),
 }
 
-// How many bytes a word of a set has.
-fn unit(s: Set) -> usize
-    ensures { (result ≡ unit s) × (0 < result) }
-{
-    match s {
-        Set::Arm => 4,
-        Set::Thumb(_) => 2,
+impl Set {
+    // How many bytes a word of it has.
+    fn unit(self) -> usize
+        ensures value { result ≡ unit self }
+        ensures some { 0 < result }
+    {
+        match self {
+            Set::Arm => 4,
+            Set::Thumb(_) => 2,
+        }
     }
 }
 
 // A Thumb stretch.
-#[derive(Clone, Copy)]
+#[derive(Clone, Copy, Debug, PartialEq, Eq)]
 pub struct Stretch {
     pub offset: u32,
     pub bytes: u32,
@@ -52,56 +55,36 @@ impl Stretch {
     }
 }
 
-// Byte i from a place on, or 0 past the end.
-fn byte_at(s: &[u8], at: usize, i: usize) -> u8
-    ensures { result ≡ slice_index s.now (at + i) }
-{
-    s.get(at.saturating_add(i)).copied().unwrap_or(0)
-}
-
-// The bytes from a place on; those past the end count as 0.
+// The bytes from a place on; those past the end count as 0. Where there are enough they are read at once.
 fn bytes_at<const N: usize>(s: &[u8], at: usize) -> [u8; N]
     ensures { (k : ℕ) → k < N → slice_index result k ≡ slice_index s.now (at + k) }
 {
-    let mut bytes = [0; N];
-    for (i, byte) in bytes.iter_mut().enumerate() {
-        *byte = byte_at(s, at, i);
+    let rest = s.get(at..).unwrap_or(&[]);
+    if let Some((bytes, _)) = rest.split_first_chunk() {
+        return *bytes;
     }
+    let mut bytes = [0; N];
+    bytes[..rest.len()].copy_from_slice(rest);
     bytes
 }
 
-// The word at a place where there are as many bytes.
-#[tactic(auto, unfolding(crate::specs::Bytes::word, crate::specs::Bytes::half))]
-fn word_in(s: &[u8], at: usize) -> u32
-    requires { at + 4 ≤ length s.now }
-    ensures { result ≡ word s.now at }
-{
-    u32::from_le_bytes([s[at], s[at + 1], s[at + 2], s[at + 3]])
-}
-
-// The halfword, and the word, at a place of some bytes; those past the end count as 0. Where there are enough they are read at once: by `bytes_at` alone a
-// listing of Thumb takes longer.
-#[tactic(auto, unfolding(crate::specs::Bytes::half))]
+// The halfword at a place of some bytes; those past the end count as 0.
 pub fn half_at(s: &[u8], at: usize) -> u16
     ensures { result ≡ half s.now at }
 {
-    if 2 <= s.len() && at <= s.len() - 2 {
-        return u16::from_le_bytes([s[at], s[at + 1]]);
-    }
     u16::from_le_bytes(bytes_at(s, at))
 }
 
+// The word.
 pub fn word_at(s: &[u8], at: usize) -> u32
     ensures { result ≡ word s.now at }
 {
-    if 4 <= s.len() && at <= s.len() - 4 {
-        return word_in(s, at);
-    }
     u32::from_le_bytes(bytes_at(s, at))
 }
 
-// An image that is lent: its bytes, its Thumb stretches as pairs of offset and length, of 32 bits each, and the address of its first byte.
-#[derive(Clone, Copy)]
+// An image that is lent: its bytes, its Thumb stretches as pairs of offset and length, of 32 bits each, and the address of its first byte. The pairs are
+// bytes and no slice of `Stretch`: C lends them so, and there is no heap for a copy. Clauses take the three one by one, as the definitions do.
+#[derive(Clone, Copy, Debug, PartialEq, Eq)]
 pub struct Image<'a> {
     pub bytes: &'a [u8],
     pub stretches: &'a [u8],
@@ -109,48 +92,54 @@ pub struct Image<'a> {
 }
 
 impl<'a> Image<'a> {
-    // How many stretches there are, and which is number i of them.
+    // How many stretches there are.
     fn count(self) -> usize
         ensures { result ≡ length self.entry.stretches.now / 8 }
     {
         self.stretches.len() / 8
     }
 
-    fn stretch(self, i: usize) -> Stretch
-        requires { i < length self.stretches.now / 8 }
-        ensures { result ≡ pair_at self.entry.stretches.now i }
+    // Stretch i, if there are as many. By its number, since a listing goes on from the number of the first that is left.
+    fn stretch(self, i: usize) -> Option<Stretch>
+        ensures { result ≡ slice_get (pairs self.entry.stretches.now) i }
     {
-        Stretch {
-            offset: word_in(self.stretches, 8 * i),
-            bytes: word_in(self.stretches, 8 * i + 4),
+        if self.count() <= i {
+            return None;
         }
+        let pair = &self.stretches[8 * i..8 * i + 8];
+        Some(Stretch {
+            offset: word_at(pair, 0),
+            bytes: word_at(pair, 4),
+        })
     }
 
-    // From stretch next on, the first whose end is past a place. Inlined, a step of a listing takes no copy of the image.
+    // Whether there is a stretch i that ends past a place.
+    fn ends_past(self, i: usize, at: usize) -> bool
+        ensures { result ≡ (nat_lt i (length self.entry.stretches.now / 8) && nat_lt at (end (pair_at self.entry.stretches.now i))) }
+    {
+        self.stretch(i).is_some_and(|s| at < s.end())
+    }
+
+    // From stretch next on, the first whose end is past a place: looked for from the front, as the stretches are in order only where they are not refused.
+    // Inlined, a step of a listing takes no copy of the image.
     #[inline(always)]
     pub fn first_left(self, next: usize, at: usize) -> usize
         ensures { result ≡ first_left self.entry.stretches.now next at }
     {
-        for i in next..self.count() {
-            if at < self.stretch(i).end() {
-                return i;
-            }
-        }
-        next.max(self.count())
+        let n = self.count();
+        (next..n)
+            .find(|i| self.ends_past(*i, at))
+            .unwrap_or(next.max(n))
     }
 
     // The set at a place, by the stretches from number next on.
     pub fn set_at(self, next: usize, at: usize) -> Set
         ensures { result ≡ set_at (left self.entry.stretches.now next) at }
     {
-        let i = self.first_left(next, at);
-        if i < self.count() {
-            let stretch = self.stretch(i);
-            if stretch.offset as usize <= at {
-                return Set::Thumb(stretch.end());
-            }
+        match self.stretch(self.first_left(next, at)) {
+            Some(s) if s.offset as usize <= at => Set::Thumb(s.end()),
+            _ => Set::Arm,
         }
-        Set::Arm
     }
 
     // Whether the bytes are refused.
@@ -160,20 +149,23 @@ impl<'a> Image<'a> {
         65536 < self.bytes.len() || self.bytes.len() % 4 != 0
     }
 
-    // Whether one of the stretches is.
+    // The end of stretch i, unless it is refused where the stretch before it ends at a place.
+    fn end_of(self, i: usize, before: usize) -> Option<usize>
+        ensures { result ≡ end_of (length self.entry.bytes.now) before (slice_get (pairs self.entry.stretches.now) i) }
+    {
+        match self.stretch(i) {
+            Some(s) if !s.is_wrong(self.bytes.len(), before) => Some(s.end()),
+            _ => None,
+        }
+    }
+
+    // Whether one of the stretches is refused.
     fn wrong_stretch(self) -> bool
         ensures { result ≡ wrong_pairs (length self.entry.bytes.now) 0 (pairs self.entry.stretches.now) }
     {
-        let size = self.bytes.len();
-        let mut before = 0;
-        for i in 0..self.count() {
-            let stretch = self.stretch(i);
-            if stretch.is_wrong(size, before) {
-                return true;
-            }
-            before = stretch.end();
-        }
-        false
+        (0..self.count())
+            .try_fold(0, |before, i| self.end_of(i, before))
+            .is_none()
     }
 
     // Whether the list of them is.
@@ -188,12 +180,10 @@ impl<'a> Image<'a> {
     pub fn check(self) -> Result<(), Refusal>
         ensures { result ≡ refusal self.entry.bytes.now self.entry.stretches.now }
     {
-        let no_image = self.wrong_bytes();
-        let no_list = self.wrong_stretches();
-        if no_image {
+        if self.wrong_bytes() {
             return Err(Refusal::WrongImage);
         }
-        if no_list {
+        if self.wrong_stretches() {
             return Err(Refusal::WrongStretches);
         }
         Ok(())
@@ -203,7 +193,7 @@ impl<'a> Image<'a> {
     fn wrong_place(self, at: usize) -> bool
         ensures { result ≡ wrong_place self.entry.bytes.now self.entry.stretches.now at }
     {
-        self.bytes.len() < at || at % unit(self.set_at(0, at)) != 0
+        self.bytes.len() < at || at % self.set_at(0, at).unit() != 0
     }
 
     // The same, and whether a place in it is the start of a word, or the end.

@@ -1,7 +1,7 @@
 // What the lines of both sets are made of: names, marks and register lists by a word's fields; and how a line is answered.
 #![tactic(auto, using(text::proofs::Puts::written))]
 
-ghost use Rattle.std.specs.Prelude.{cond, List, ℕ, length, [], ◌∷◌, ◌≡◌, ◌++◌, ◌≤◌};
+ghost use Rattle.std.specs.Prelude.{List, ℕ, length, [], ◌∷◌, ◌≡◌, ◌++◌, ◌≤◌};
 ghost use Rattle.text.specs.Text.{text};
 ghost use Rattle.text.specs.Puts.{puts};
 ghost use Rattle.text.specs.Wrote.{Wrote};
@@ -14,6 +14,8 @@ use arm7tdmi::cond::put_cond;
 use arm7tdmi::{Form, put_reg};
 use refusal::Refusal;
 use text::put::Writer;
+
+// A word and the bits of it that are shown are parameters, as in the Rust's `bit_range(a..b)`: a struct of the three would be taken apart at once.
 
 // The name of the register in bits a up to b.
 #[tactic(auto, unfolding(crate::specs::Pieces::reg_at))]
@@ -47,19 +49,12 @@ pub fn put_mark(out: &mut Writer<'_>, raw: u32, n: u32, mark: u8)
     out.put_if(bit(raw, n), mark);
 }
 
-// One text or another.
-fn chosen<'a>(b: bool, set: &'a [u8], clear: &'a [u8]) -> &'a [u8]
-    ensures { result.now ≡ cond «b» set.now clear.now }
-{
-    if b { set } else { clear }
-}
-
 // One text where bit n is set, and another where it is clear.
 #[tactic(auto, unfolding(crate::specs::Pieces::either))]
 pub fn put_either<'a>(out: &mut Writer<'_>, raw: u32, n: u32, set: &'a [u8], clear: &'a [u8])
     ensures { out.new ≡ puts out.old (either raw n set.now clear.now) }
 {
-    out.put_text(chosen(bit(raw, n), set, clear));
+    out.put_text(if bit(raw, n) { set } else { clear });
 }
 
 // Register i of a list, with a comma before it where a lower one is in the list.
@@ -112,7 +107,10 @@ fn give_line(buf: &mut [u8], s: &[u8]) -> Result<usize, Refusal>
     Ok(n)
 }
 
-// A line that can be written into a buffer. It has at most 80 bytes.
+// The most bytes that a line has. A law cannot name it: `short` says 80.
+pub const LINE: usize = 80;
+
+// A line that can be written into a buffer.
 pub trait Line {
     ghost shown: { Self → List ℕ };
 
@@ -136,10 +134,10 @@ pub fn put_at_start<L: Line>(l: &L, buf: &mut [u8]) -> usize
 pub fn print_line<L: Line>(l: &L, buf: &mut [u8]) -> Result<usize, Refusal>
     ensures { printed (line (L.shown l.now)) buf.old ≡ (result, buf.new) }
 {
-    if 80 <= buf.len() {
+    if LINE <= buf.len() {
         return Ok(put_at_start(l, buf));
     }
-    let mut scratch = [0u8; 80];
+    let mut scratch = [0u8; LINE];
     let n = put_at_start(l, &mut scratch);
     give_line(buf, &scratch[..n])
 }

@@ -2,38 +2,15 @@
 #![tactic(auto)]
 
 ghost use Rattle.std.specs.Prelude.{◌≡◌};
-ghost use Rattle.image.specs.Stretches.{first_left, left};
-ghost use Rattle.steps.specs.Listed.{listed, next_place};
 ghost use Rattle.listing.specs.Listing.{Opened, Resumed, SteppedIs};
 
 use image::Image;
 use refusal::Refusal;
 use steps::{Listed, step_at};
 
-// What a step answers, and where the listing stands behind it.
-#[derive(Clone, Copy)]
-pub struct Stepped {
-    pub listed: Listed,
-    pub at: usize,
-    pub next: usize,
-}
-
-// A step at a place, by the stretches from number next on.
-pub fn step_on(image: Image, at: usize, next: usize, line: &mut [u8]) -> Stepped
-    ensures { (listed image.entry.bytes.now (left image.entry.stretches.now next) image.entry.base at line.old ≡ (result.listed, line.new)) × (result.at ≡ next_place result.listed) × (result.next ≡ first_left image.entry.stretches.now next at) }
-{
-    let i = image.first_left(next, at);
-    let listed = step_at(image, i, at, line);
-    Stepped {
-        listed,
-        at: at + listed.bytes(),
-        next: i,
-    }
-}
-
 // The lent image, or one of no bytes where it, its stretches or the offset were refused, and by which refusal; the place; and the number of the first
-// stretch that may still tell of it.
-#[derive(Clone, Copy)]
+// stretch that may still tell of it. A refused listing is a listing too, and no `Err`: its first step is an end mark.
+#[derive(Clone, Copy, Debug, PartialEq, Eq)]
 pub struct Listing<'a> {
     pub image: Image<'a>,
     pub refusal: Option<Refusal>,
@@ -57,7 +34,7 @@ impl<'a> Listing<'a> {
                 image: Image {
                     bytes: &[],
                     stretches: &[],
-                    base: image.base,
+                    ..image
                 },
                 refusal: Some(refusal),
                 at: 0,
@@ -84,9 +61,10 @@ impl<'a> Listing<'a> {
     pub fn step(&mut self, line: &mut [u8]) -> Listed
         ensures { SteppedIs self.old line.old result line.new self.new }
     {
-        let s = step_on(self.image, self.at, self.next, line);
-        self.at = s.at;
-        self.next = s.next;
-        s.listed
+        let next = self.image.first_left(self.next, self.at);
+        let listed = step_at(self.image, next, self.at, line);
+        self.at += listed.bytes();
+        self.next = next;
+        listed
     }
 }

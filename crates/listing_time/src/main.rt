@@ -3,42 +3,26 @@
 // for the prints alone a letter for each step: w for an ARM word, h for a Thumb halfword, p for a call pair.
 #![tactic(auto)]
 
-use arm_print::print_arm;
-use arm7tdmi::Form;
-use image::{Image, half_at, word_at};
+use image::{Image, word_at};
 use input::read_full;
-use listing::step_on;
-use pairs::print::print_pair;
+use lines::LINE;
+use listing::Listing;
 use std::io;
-use steps::Span;
+use steps::{Span, address};
 use text::put::part;
-use thumb_print::print_thumb;
 
 // The most bytes of input: two numbers, 65,536 of an image, and the 16,384 pairs that it may have.
 const INPUT: usize = 196616;
 
-// The longest line.
-const LINE: usize = 80;
-
-// One pass from start to end: its number of steps. None where image or stretches are refused.
+// One pass from start to end: its number of steps; 0 where image or stretches are refused.
 fn pass(image: Image, line: &mut [u8; LINE]) -> usize {
-    if image.check().is_err() {
-        return 0;
-    }
-    let mut at = 0;
-    let mut next = 0;
-    for steps in 0..image.bytes.len() {
-        let s = step_on(image, at, next, line);
-        if s.at == at {
-            return steps;
-        }
-        at = s.at;
-        next = s.next;
-    }
-    image.bytes.len()
+    let mut listing = Listing::open(image);
+    (0..image.bytes.len())
+        .take_while(|_| listing.step(line).bytes() != 0)
+        .count()
 }
 
-// What a letter of the input stands for.
+// What a letter of the input stands for. No `From`: `Span` is another crate's.
 fn span_of(letter: u8) -> Span {
     match letter {
         b'w' => Span::Word,
@@ -47,36 +31,18 @@ fn span_of(letter: u8) -> Span {
     }
 }
 
-// Prints what stands at a place, and answers how many bytes that is.
-fn print(image: &[u8], span: Span, at: usize, line: &mut [u8; LINE]) -> usize {
-    let pc = (at % 0x1_0000_0000) as u32;
-    match span {
-        Span::Word => {
-            let _printed = print_arm(Form::Sheet, word_at(image, at), pc, line);
-            4
-        }
-        Span::Half => {
-            let _printed = print_thumb(Form::Sheet, half_at(image, at), pc, line);
-            2
-        }
-        Span::Pair => {
-            let second = half_at(image, at.wrapping_add(2));
-            let _printed = print_pair(half_at(image, at), second, pc, line);
-            4
-        }
-    }
-}
-
-// The prints of one pass alone, where it is known what stands at each place: their number.
+// The prints of one pass alone, where it is known what stands at each place: their number. The loop carries the place.
 fn prints(image: &[u8], letters: &[u8], line: &mut [u8; LINE]) -> usize {
     let mut at: usize = 0;
     for letter in letters {
-        at = at.wrapping_add(print(image, span_of(*letter), at, line));
+        let span = span_of(*letter);
+        let _printed = span.print(image, address(0, at), at, line);
+        at = at.wrapping_add(span.bytes());
     }
     letters.len()
 }
 
-// So many passes: the number of steps of the last.
+// So many passes: the number of steps of the last. The loop repeats, and takes nothing from its count.
 fn passes<F: FnMut(&mut [u8; LINE]) -> usize>(n: u32, mut pass: F) -> usize
     requires { F.IsAlwaysCallable pass }
 {

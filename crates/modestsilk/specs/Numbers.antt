@@ -20,6 +20,11 @@ abbrev pub refusal_number : Option Refusal → ℕ
 refusal_number (Some r) = number r
 refusal_number None = 0
 
+-- an answer as a number and a value: 0 and what is given, or the refusal's number and what stands for none
+abbrev pub given : {T : Type 0} → T → Result T Refusal → ℕ × T
+given none (Ok t) = (0, t)
+given none (Err r) = (number r, none)
+
 -- the answer of a step as the C function gives it: number, offset, byte length, the line's length; and the buffer. Without a step all but the number are 0.
 abbrev pub step_numbers : Result Listed Refusal → List ℕ → ℕ × ℕ × ℕ × ℕ × List ℕ
 step_numbers (Ok s) l = (refusal_number (listed_refusal s), listed_offset s, listed_bytes s, listed_length s, l)

@@ -1,4 +1,5 @@
-// The operations for callers in C: thin calls of the proved ones. Each has the contract of the operation that it calls.
+// The operations for callers in C: thin calls of the proved ones. Each has the contract of the operation that it calls. C has no generic functions, so those of
+// ARM and of Thumb are two; and what C lends comes in parameters of its own, with what is answered behind pointers.
 #![tactic(auto)]
 
 ghost use Rattle.std.specs.Prelude.{◌≡◌};
@@ -14,8 +15,7 @@ ghost use Rattle.pairs.specs.Read as Pair;
 ghost use Rattle.pairs.specs.Run.{pairing_index, pairing_number, unpaired};
 ghost use Rattle.steps.specs.Listed.{list_step};
 ghost use Rattle.patch.specs.Patch.{patched};
-ghost use Rattle.modestsilk.specs.Numbers.{form_of, numbers_of, patched_numbers, printed_numbers, refusal_number};
-ghost use Rattle.refusal.specs.Refusal.{numbers};
+ghost use Rattle.modestsilk.specs.Numbers.{form_of, given, numbers_of, patched_numbers, printed_numbers, refusal_number};
 
 use arm::arm_format;
 use arm_print::print_arm;
@@ -32,13 +32,26 @@ use thumb::thumb_format;
 use thumb_print::print_thumb;
 use thumb_read::read_thumb;
 
+// The form of a number: 0 is the bench, any other the sheet. That is what C says by a number, so it is no conversion of `Form` itself.
 fn form_of(n: u32) -> Form
     ensures { result ≡ form_of n }
 {
-    if n == 0 {
-        return Form::Bench;
-    }
-    Form::Sheet
+    if n == 0 { Form::Bench } else { Form::Sheet }
+}
+
+// The number of a refusal, or 0 for none.
+fn refusal_number(refusal: Option<Refusal>) -> u32
+    ensures { result ≡ refusal_number refusal }
+{
+    refusal.map_or(0, u32::from)
+}
+
+// What an operation answers, behind a pointer: a value, or the one that stands for none; and the refusal's number, or 0.
+fn give<T: Copy>(answer: Result<T, Refusal>, none: T, value: &mut T) -> u32
+    ensures { given none answer ≡ (result, value.new) }
+{
+    *value = answer.unwrap_or(none);
+    refusal_number(answer.err())
 }
 
 // The number of the kind of an ARM word.
@@ -59,22 +72,6 @@ pub extern "C" fn silk_kind_thumb(form: u32, word: u16) -> u32
     u32::from(fmt)
 }
 
-// What a print answered, as numbers: the length behind the pointer, and the refusal's number, or 0.
-fn give_length(printed: Result<usize, Refusal>, length: &mut usize) -> u32
-    ensures { numbers printed ≡ (result, length.new) }
-{
-    match printed {
-        Ok(n) => {
-            *length = n;
-            0
-        }
-        Err(refusal) => {
-            *length = 0;
-            u32::from(refusal)
-        }
-    }
-}
-
 // The line of an ARM word into a buffer, its length behind the pointer; the answer is the refusal's number, or 0.
 #[unsafe(no_mangle)]
 pub extern "C" fn silk_print_arm(
@@ -86,8 +83,7 @@ pub extern "C" fn silk_print_arm(
 ) -> u32
     ensures { printed_numbers (printed (arm_line (form_of form) address word) line.old) ≡ (result, length.new, line.new) }
 {
-    let p = print_arm(form_of(form), word, address, line);
-    give_length(p, length)
+    give(print_arm(form_of(form), word, address, line), 0, length)
 }
 
 // The same for a Thumb word.
@@ -101,8 +97,7 @@ pub extern "C" fn silk_print_thumb(
 ) -> u32
     ensures { printed_numbers (printed (thumb_line (form_of form) address word) line.old) ≡ (result, length.new, line.new) }
 {
-    let p = print_thumb(form_of(form), word, address, line);
-    give_length(p, length)
+    give(print_thumb(form_of(form), word, address, line), 0, length)
 }
 
 // The lowest ARM word that prints a line at an address, behind the pointer; the answer is 0, or 4 with word 0 where there is none.
@@ -110,16 +105,8 @@ pub extern "C" fn silk_print_thumb(
 pub extern "C" fn silk_read_arm(form: u32, address: u32, line: &[u8], word: &mut u32) -> u32
     ensures { (result ≡ Arm.read_number (Arm.read_answer (form_of form) address line.now)) × (word.new ≡ Arm.read_word (Arm.read_answer (form_of form) address line.now)) }
 {
-    match read_arm(form_of(form), address, line) {
-        Some(w) => {
-            *word = w;
-            0
-        }
-        None => {
-            *word = 0;
-            4
-        }
-    }
+    let read = read_arm(form_of(form), address, line);
+    give(read.ok_or(Refusal::NoWord), 0, word)
 }
 
 // The same for a Thumb word.
@@ -127,16 +114,8 @@ pub extern "C" fn silk_read_arm(form: u32, address: u32, line: &[u8], word: &mut
 pub extern "C" fn silk_read_thumb(form: u32, address: u32, line: &[u8], word: &mut u16) -> u32
     ensures { (result ≡ Thumb.read_number (Thumb.read_answer (form_of form) address line.now)) × (word.new ≡ Thumb.read_word (Thumb.read_answer (form_of form) address line.now)) }
 {
-    match read_thumb(form_of(form), address, line) {
-        Some(w) => {
-            *word = w;
-            0
-        }
-        None => {
-            *word = 0;
-            4
-        }
-    }
+    let read = read_thumb(form_of(form), address, line);
+    give(read.ok_or(Refusal::NoWord), 0, word)
 }
 
 // The sheet line of a call pair into a buffer, its length behind the pointer; the answer is 0, 5 where the halfwords are no pair, or 3.
@@ -150,8 +129,7 @@ pub extern "C" fn silk_print_pair(
 ) -> u32
     ensures { printed_numbers (printed (pair_line address first second) line.old) ≡ (result, length.new, line.new) }
 {
-    let p = print_pair(first, second, address, line);
-    give_length(p, length)
+    give(print_pair(first, second, address, line), 0, length)
 }
 
 // The pair that prints a line at an address, behind the pointers; the answer is 0, or 4 with both halves 0 where there is none.
@@ -164,18 +142,11 @@ pub extern "C" fn silk_read_pair(
 ) -> u32
     ensures { (result ≡ Pair.read_number (Pair.pair_answer address line.now)) × (first.new ≡ Pair.read_first (Pair.pair_answer address line.now)) × (second.new ≡ Pair.read_second (Pair.pair_answer address line.now)) }
 {
-    match read_pair(address, line) {
-        Some((a, b)) => {
-            *first = a;
-            *second = b;
-            0
-        }
-        None => {
-            *first = 0;
-            *second = 0;
-            4
-        }
-    }
+    let read = read_pair(address, line);
+    let (a, b) = read.unwrap_or((0, 0));
+    *first = a;
+    *second = b;
+    refusal_number(read.ok_or(Refusal::NoWord).err())
 }
 
 // The earliest half of a run that lacks its partner: 1 with its index behind the pointer, or 0 with index 0 where all are paired.
@@ -183,26 +154,9 @@ pub extern "C" fn silk_read_pair(
 pub extern "C" fn silk_unpaired(halfwords: &[u16], index: &mut usize) -> u32
     ensures { (result ≡ pairing_number (unpaired halfwords.now)) × (index.new ≡ pairing_index (unpaired halfwords.now)) }
 {
-    match unpaired(halfwords) {
-        Some(i) => {
-            *index = i;
-            1
-        }
-        None => {
-            *index = 0;
-            0
-        }
-    }
-}
-
-// The number of a refusal, or 0 for none.
-fn refusal_number(refusal: Option<Refusal>) -> u32
-    ensures { result ≡ refusal_number refusal }
-{
-    match refusal {
-        Some(refusal) => u32::from(refusal),
-        None => 0,
-    }
+    let found = unpaired(halfwords);
+    *index = found.unwrap_or(0);
+    u32::from(found.is_some())
 }
 
 // One step of the listing of an image at a place: its line into a buffer; offset, byte length and the line's length behind the pointers. The answer is the
@@ -252,8 +206,5 @@ pub extern "C" fn silk_patch(
 ) -> u32
     ensures { patched_numbers (patched image.old stretches.now base offset line.now) ≡ (result, image.new) }
 {
-    match patch(image, stretches, base, offset as usize, line) {
-        Ok(()) => 0,
-        Err(refusal) => u32::from(refusal),
-    }
+    refusal_number(patch(image, stretches, base, offset as usize, line).err())
 }

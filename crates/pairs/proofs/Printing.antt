@@ -1,5 +1,5 @@
 -- Laws of the line of a pair: it has 13 bytes, and what is printed by what the code tests. Assumes nothing.
-use Rattle.std.proofs.Common.{◌≡◌, ℕ, ◌<◌, ◌≤◌, true, false, List, length, take, drop, replicate, sym, refl, true≢false, mod-lt, arith, take_at, le-ltb, lt-ltb, Ok, Err}
+use Rattle.std.proofs.Common.{◌≡◌, ℕ, ◌<◌, ◌≤◌, true, false, List, length, drop, sym, true≢false, mod-lt, arith, le-ltb, lt-ltb, Ok, Err}
 use Rattle.arm7tdmi.specs.declared.Form.TheVariants.{Sheet}
 use Rattle.common.proofs.Tests.{by_test}
 use Rattle.refusal.specs.declared.Refusal.TheVariants.{NoPair, NoRoom}
@@ -7,7 +7,7 @@ use Rattle.lines.proofs.Address.{address_back, sheet_within}
 use Rattle.lines.specs.Answer.{line, printed, refused}
 use Rattle.reading.proofs.Demand.{line_is}
 use Rattle.text.proofs.Within.{Within, ◌&◌, exactly}
-use Rattle.text.proofs.Wrote.{kept, lies}
+use Rattle.text.proofs.Wrote.{lies}
 use Rattle.text.specs.Digits.{value}
 use Rattle.text.specs.Text.{text}
 use Rattle.text.specs.Wrote.{Wrote}
@@ -57,12 +57,3 @@ module _ (p first second : ℕ) where
         let n = pair_length in
         let g = lies w (omega (arith, n)) in
         rw (e, g.0, g.1, le-ltb (length l) (length (pair_text p first second)) (omega (arith, n)))
-
-  -- what a scratch holds: the line, and the answer is its length
-  pub in_scratch : {l : List ℕ} {r : ℕ} → Wrote (replicate 13 0) 0 (pair_text p first second) l r → (take r l ≡ pair_text p first second) × (r ≤ length l)
-  in_scratch {l} {r} w =
-      let t = pair_text p first second in
-      let n = pair_length in
-      let e = lies w (omega (n, arith)) in
-      let k = kept w in
-      (rw (e.1, e.0) (take_at t (drop (length t) (replicate 13 0)) (length t) refl), omega (e.1, n, k, arith))

@@ -1,9 +1,11 @@
--- The steps of the check of a run. Assumes nothing.
-use Rattle.std.proofs.Common.{◌≡◌, ℕ, ◌+◌, ◌<◌, ◌≤◌, Bool, true, false, not, ◌||◌, List, length, refl, add-one, arith, le-ltb, lt-ltb, Some, None}
-use Rattle.common.proofs.Lowest.{lowest_at_most, lowest_step}
+-- The check of a run. Assumes nothing.
+use Rattle.std.proofs.Common.{◌≡◌, ◌∙◌, ℕ, ◌<◌, ◌≤◌, Bool, true, false, true≢false, not, ◌||◌, List, length, ltb, ltb-false, ltb-true, refl, sym, arith, le-ltb, lt-ltb, Option, Some, None}
+use Rattle.std.specs.Prelude.{MatchOption}
+use Rattle.common.proofs.Lowest.{lowest_is}
+use Rattle.common.proofs.Tests.{by_test}
 use Rattle.common.specs.Lowest.{lowest}
 use Rattle.thumb.specs.Pair.{is_first_half, is_second_half}
-use Rattle.pairs.specs.Run.{first_unpaired, half_at, half_before, lacks, lacks_at, unpaired}
+use Rattle.pairs.specs.Run.{first_unpaired, lacks, lacks_at, unpaired}
 use Rattle.pairs.proofs.Halves.{not_both}
 
 or_none : (b : Bool) → (b || false) ≡ b
@@ -24,22 +26,16 @@ module _ (before h behind : ℕ) where
   unfolding lacks
   lacks_none e f = rw (e, f)
 
--- ---- a turn of the loop
-module _ (run : List ℕ) (i : ℕ) where
-  pub before_next : half_before run (i + 1) ≡ half_at run i
-  before_next = rw add-one
-
-  pub goes_on : i ≤ first_unpaired run → i < length run → lacks_at run i ≡ false → i + 1 ≤ first_unpaired run
-  unfolding first_unpaired
-  goes_on h l e = lowest_step (lacks_at run) (length run) i h l e
-
-  pub found : i ≤ first_unpaired run → i < length run → lacks_at run i ≡ true → Some i ≡ unpaired run
-  unfolding first_unpaired unpaired
-  found h l e =
-      let m = lowest_at_most (lacks_at run) (length run) i e in
-      let q : lowest (lacks_at run) (length run) ≡ i = omega (arith, m, h) in
-      rw (q, lt-ltb i (length run) l)
-
-  pub ran_out : i ≤ first_unpaired run → length run ≤ i → None ≡ unpaired run
-  unfolding first_unpaired unpaired
-  ran_out h l = rw (le-ltb (lowest (lacks_at run) (length run)) (length run) (omega (arith, h)))
+-- ---- what the search over the places of a run finds
+pub searched : (run : List ℕ) (r : Option ℕ)
+    → MatchOption r ((k : ℕ) → 0 ≤ k → k < length run → lacks_at run k ≡ false) (λ i. (0 ≤ i) × (i < length run) × (lacks_at run i ≡ true) × ((k : ℕ) → 0 ≤ k → k < i → lacks_at run k ≡ false))
+    → r ≡ unpaired run
+unfolding unpaired first_unpaired
+searched run None f =
+    let q : lowest (lacks_at run) (length run) ≡ length run = lowest_is (lacks_at run) (length run) (length run) (omega arith) (λ h. absurd (omega arith)) (λ m h t. absurd (true≢false (sym t ∙ f m (omega arith) h))) in
+    rw (q, le-ltb (length run) (length run) (omega arith))
+searched run (Some i) f =
+    let q : lowest (lacks_at run) (length run) ≡ i =
+    lowest_is (lacks_at run) (length run) i (omega (f.1, arith)) (λ h. f.2)
+    (λ m h t. by_test (ltb m i) (λ e. absurd (true≢false (sym t ∙ f.3 m (omega arith) (ltb-true m i e)))) (λ e. ltb-false m i e)) in
+    rw (q, lt-ltb i (length run) f.1)

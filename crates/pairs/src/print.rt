@@ -16,7 +16,7 @@ use text::put::Writer;
 use thumb::{is_pair, pair_target};
 
 // The line of two halves at an address.
-#[derive(Clone, Copy)]
+#[derive(Clone, Copy, Debug, PartialEq, Eq)]
 pub struct PairLine {
     pub pc: u32,
     pub first: u16,

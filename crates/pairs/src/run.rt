@@ -1,23 +1,26 @@
 // The halves of a run of halfwords that lack their partner.
-ghost use Rattle.std.specs.Prelude.{◌≡◌, slice_index};
-ghost use Rattle.pairs.specs.Run.{lacks, unpaired};
+ghost use Rattle.std.specs.Prelude.{◌≡◌, ◌<◌, length};
+ghost use Rattle.pairs.specs.Run.{half_before, lacks_at, unpaired};
 
+use text::read::item_or;
 use thumb::{is_first_half, is_second_half};
 
-// The halfword at a place, or 0 past the end.
-fn half_at(run: &[u16], i: usize) -> u16
-    ensures { result ≡ slice_index run.now i }
+// The halfword before a place, or 0 at the start.
+fn half_before(run: &[u16], i: usize) -> u16
+    ensures { result ≡ half_before run.now i }
 {
-    run.get(i).copied().unwrap_or(0)
+    if i == 0 { 0 } else { item_or(run, i - 1, 0) }
 }
 
-// Whether a halfword is a half that lacks its partner.
+// Whether the halfword at a place is a half that lacks its partner.
 #[tactic(auto, unfolding(crate::specs::Run::lacks))]
-fn lacks_partner(before: u16, h: u16, behind: u16) -> bool
-    ensures { result ≡ lacks before h behind }
+fn lacks_at(run: &[u16], i: usize) -> bool
+    requires { i < length run.now }
+    ensures { result ≡ lacks_at run.now i }
 {
-    let opens_alone = is_first_half(h) && !is_second_half(behind);
-    let closes_alone = is_second_half(h) && !is_first_half(before);
+    let h = item_or(run, i, 0);
+    let opens_alone = is_first_half(h) && !is_second_half(item_or(run, i + 1, 0));
+    let closes_alone = is_second_half(h) && !is_first_half(half_before(run, i));
     opens_alone || closes_alone
 }
 
@@ -25,12 +28,5 @@ fn lacks_partner(before: u16, h: u16, behind: u16) -> bool
 pub fn unpaired(run: &[u16]) -> Option<usize>
     ensures { result ≡ unpaired run.now }
 {
-    let mut before = 0;
-    for (i, &half) in run.iter().enumerate() {
-        if lacks_partner(before, half, half_at(run, i + 1)) {
-            return Some(i);
-        }
-        before = half;
-    }
-    None
+    (0..run.len()).find(|i| lacks_at(run, *i))
 }

@@ -1,11 +1,10 @@
--- What a patch answers, by what the read of its line does; and that a place which is not refused has room for a word. Assumes nothing.
+-- What a patch answers, by what the read of its line answers; and that a place which is not refused has room for a word. Assumes nothing.
 use mathlib.Core.Path.{◌≡◌}
-use mathlib.Core.Bool.{cond}
 use mathlib.Core.List.{List}
 use Prim.Native.Nat.{ℕ, ◌+◌, ◌%◌, ◌^◌, ◌<◌, ◌≤◌}
 use native.Mathlib.Omega.{arith}
 use borrow.Author.Tests.{leb-false}
-use lib.Dec.{eqb, leb, ltb}
+use lib.Dec.{leb, ltb}
 use lib.ListN.{length}
 use Rattle.common.proofs.Tests.{by_test}
 use Rattle.arm7tdmi.specs.declared.Form.TheVariants.{Sheet}
@@ -19,21 +18,22 @@ use Rattle.image.specs.declared.Set.{Set}
 use Rattle.image.specs.declared.Set.TheVariants.{Arm, Thumb}
 use Rattle.image.proofs.Valid.{valid, place_passed, placed, not_refused}
 use Rattle.std.proofs.Common.{Result, Ok, Err}
-use Rattle.std.specs.Prelude.{⊤}
+use Rattle.std.specs.Prelude.{⊤, Option, Some, None}
 use Rattle.refusal.specs.declared.Refusal.{Refusal}
 use Rattle.refusal.specs.declared.Refusal.TheVariants.{NoWord}
 use Rattle.patch.specs.Patch.{patch_refusal, patched_in, with_number}
 
--- ---- by the number and the word of a read
-abbrev answered : List ℕ → ℕ → ℕ → ℕ → ℕ → Result ⊤ Refusal × List ℕ
-answered image at width number word = cond (eqb number 0) (Ok tt, with_number image at width word) (Err NoWord, image)
+-- ---- by the answer of a read
+abbrev answered : List ℕ → ℕ → ℕ → Option ℕ → Result ⊤ Refusal × List ℕ
+answered image at width None = (Err NoWord, image)
+answered image at width (Some word) = (Ok tt, with_number image at width word)
 
 module _ (image : List ℕ) (p at : ℕ) (l : List ℕ) where
-  pub arm_answer : patched_in image Arm p at l ≡ answered image at 4 (ArmAnswer.read_number (ArmAnswer.read_answer Sheet p l)) (ArmAnswer.read_word (ArmAnswer.read_answer Sheet p l))
+  pub arm_answer : patched_in image Arm p at l ≡ answered image at 4 (ArmAnswer.read_answer Sheet p l)
   unfolding ArmAnswer.read_answer read_arm patched_in
   arm_answer = by_test (ltb (read_arm Sheet p l) (2 ^ 32)) (λ t. rw t) (λ t. rw t)
 
-  pub thumb_answer : (e : ℕ) → patched_in image (Thumb e) p at l ≡ answered image at 2 (ThumbAnswer.read_number (ThumbAnswer.read_answer Sheet p l)) (ThumbAnswer.read_word (ThumbAnswer.read_answer Sheet p l))
+  pub thumb_answer : (e : ℕ) → patched_in image (Thumb e) p at l ≡ answered image at 2 (ThumbAnswer.read_answer Sheet p l)
   unfolding ThumbAnswer.read_answer read_thumb patched_in
   thumb_answer e = by_test (ltb (read_thumb Sheet p l) (2 ^ 16)) (λ t. rw t) (λ t. rw t)
 

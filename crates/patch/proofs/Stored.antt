@@ -1,12 +1,16 @@
 -- Laws of a stored number: it stands there, and nothing else moves. Assumes nothing.
-use mathlib.Core.Path.{◌≡◌, refl, ◌∙◌}
-use mathlib.Core.List.{List}
+use mathlib.Core.Path.{◌≡◌, ap, refl, sym, ◌∙◌}
+use mathlib.Core.List.{List, [], ◌∷◌}
 use mathlib.Core.Logic.{◌⊎◌, inl, inr, ⊎_elim}
-use Prim.Native.Nat.{ℕ, zero, suc, ◌+◌, ◌*◌, ◌-◌, ◌/◌, ◌%◌, ◌^◌, ◌<◌, ◌≤◌}
+use Prim.Native.Nat.{ℕ, zero, suc, ◌+◌, ◌*◌, ◌/◌, ◌%◌, ◌^◌, ◌<◌, ◌≤◌}
 use native.Mathlib.Nat.{pow-suc}
 use native.Mathlib.Omega.{arith}
 use lib.ListN.{length, get_or, set, length-set}
 use lib.Seq.{get_or-set_same, get_or-set_other}
+use Rattle.std.specs.Int.{to_le_bytes, w16, w32}
+use Rattle.std.specs.List.{splice}
+use Rattle.std.proofs.lemmas.List.{drop-set-lt, take-append-drop, take_more_set}
+use Rattle.std.proofs.Common.{append_assoc, add-zero}
 use Rattle.image.specs.Bytes.{half, word}
 use Rattle.image.specs.Refusal.{unit}
 use Rattle.image.specs.declared.Set.{Set}
@@ -18,14 +22,34 @@ abbrev pub Apart : ℕ → ℕ → ℕ → ℕ → Type 0
 Apart k m at n = (k + m ≤ at) ⊎ (at + n ≤ k)
 
 -- ---- a number of any width
--- one byte, and the rest behind it
-pub number_step : (l : List ℕ) (i end n : ℕ) → i < end → with_number l i (end - i) n ≡ with_number (set l i (n % 2 ^ 8)) (i + 1) (end - (i + 1)) (n / 2 ^ 8)
-unfolding with_number
-number_step l i end n h = let e : end - i ≡ suc (end - (i + 1)) = omega arith in rw e
+-- its bytes, the lowest first, in the place of those that stood there
+low_first : ℕ → ℕ → List ℕ
+low_first zero n = []
+low_first (suc width) n = n % 2 ^ 8 ∷ low_first width (n / 2 ^ 8)
 
-pub number_none : (l : List ℕ) (i end n : ℕ) → end ≤ i → with_number l i (end - i) n ≡ l
-unfolding with_number
-number_none l i end n h = let e : end - i ≡ 0 = omega arith in rw e
+number_bytes : (width : ℕ) (l : List ℕ) (at n : ℕ) → at + width ≤ length l → splice l at (at + width) (low_first width n) ≡ with_number l at width n
+unfolding with_number low_first
+number_bytes zero l at n h = rw add-zero (take-append-drop at l)
+number_bytes (suc width) l at n h =
+    let v = n % 2 ^ 8 in
+    let end = at + 1 + width in
+    let xs = low_first width (n / 2 ^ 8) in
+    let e : at + suc width ≡ end = omega arith in
+    let k : splice (set l at v) (at + 1) end xs ≡ splice l at end (v ∷ xs) = rw (take_more_set l at v (omega arith), drop-set-lt end l at v (omega arith), append_assoc) in
+    rw e (sym k ∙ number_bytes width (set l at v) (at + 1) (n / 2 ^ 8) (simp length-set (omega arith)))
+
+-- of a word, and of a halfword
+pub word_bytes : (l : List ℕ) (at n : ℕ) → at + 4 ≤ length l → splice l at (at + 4) (to_le_bytes w32 n) ≡ with_number l at 4 n
+unfolding low_first
+word_bytes l at n h =
+    let a : n / 2 ^ 8 / 2 ^ 8 ≡ n / 256 ^ 2 = omega arith in
+    let b : n / 2 ^ 8 / 2 ^ 8 / 2 ^ 8 ≡ n / 256 ^ 3 = omega arith in
+    let e : to_le_bytes w32 n ≡ low_first 4 n = rw (b, a) in
+    ap (splice l at (at + 4)) e ∙ number_bytes 4 l at n h
+
+pub half_bytes : (l : List ℕ) (at n : ℕ) → at + 2 ≤ length l → splice l at (at + 2) (to_le_bytes w16 n) ≡ with_number l at 2 n
+unfolding low_first
+half_bytes l at n h = number_bytes 2 l at n h
 
 number_length : (width : ℕ) (l : List ℕ) (at n : ℕ) → length (with_number l at width n) ≡ length l
 unfolding with_number

@@ -2,8 +2,9 @@
 #![tactic(auto)]
 
 ghost use Rattle.std.specs.Prelude.{◌≡◌, ◌+◌, ◌≤◌, length};
+ghost use Rattle.std.specs.List.{splice};
 ghost use Rattle.image.specs.Refusal.{unit};
-ghost use Rattle.patch.specs.Patch.{with_number, patch_refusal, patched_in, patched};
+ghost use Rattle.patch.specs.Patch.{patch_refusal, patched_in, patched};
 
 use arm_read::read_arm;
 use arm7tdmi::Form;
@@ -12,16 +13,12 @@ use refusal::Refusal;
 use steps::address;
 use thumb_read::read_thumb;
 
-// Stores a number in so many bytes from a place on, little-endian.
-fn put_number(bytes: &mut [u8], at: usize, width: usize, n: u32)
-    requires { at + width ≤ length bytes.old }
-    ensures { bytes.new ≡ with_number bytes.old at width n }
+// Stores bytes from a place on.
+fn put_bytes<const N: usize>(image: &mut [u8], at: usize, bytes: [u8; N])
+    requires { at + N ≤ length image.old }
+    ensures { image.new ≡ splice image.old at (at + N) bytes.entry }
 {
-    let mut rest = n;
-    for i in at..at + width {
-        bytes[i] = (rest % 256) as u8;
-        rest /= 256;
-    }
+    image[at..at + N].copy_from_slice(&bytes);
 }
 
 // Whether a patch is refused whatever its line is: 6, 7 or 8.
@@ -42,24 +39,20 @@ fn overwrite(image: &mut [u8], s: Set, pc: u32, at: usize, line: &[u8]) -> Resul
     ensures { patched_in image.old s pc at line.now ≡ (result, image.new) }
 {
     match s {
-        Set::Arm => match read_arm(Form::Sheet, pc, line) {
-            Some(word) => {
-                put_number(image, at, 4, word);
-                Ok(())
-            }
-            None => Err(Refusal::NoWord),
-        },
-        Set::Thumb(_) => match read_thumb(Form::Sheet, pc, line) {
-            Some(word) => {
-                put_number(image, at, 2, u32::from(word));
-                Ok(())
-            }
-            None => Err(Refusal::NoWord),
-        },
+        Set::Arm => {
+            let word = read_arm(Form::Sheet, pc, line).ok_or(Refusal::NoWord)?;
+            put_bytes(image, at, word.to_le_bytes());
+        }
+        Set::Thumb(_) => {
+            let half = read_thumb(Form::Sheet, pc, line).ok_or(Refusal::NoWord)?;
+            put_bytes(image, at, half.to_le_bytes());
+        }
     }
+    Ok(())
 }
 
-// Patches the word at a place of an image by its sheet line; where that is refused, with 6, 7, 8 or 4, the image keeps its bytes.
+// Patches the word at a place of an image by its sheet line; where that is refused, with 6, 7, 8 or 4, the image keeps its bytes. Its parts come one by one,
+// as an `Image` shares the bytes that are lent to be written here.
 #[tactic(auto, unfolding(crate::specs::Patch::patched))]
 pub fn patch(
     bytes: &mut [u8],

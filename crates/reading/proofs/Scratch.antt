@@ -6,16 +6,18 @@ use lib.Seq.{take_at}
 use mathlib.Core.Bool.{false}
 use mathlib.Core.List.{List, ◌++◌}
 use mathlib.Core.Path.{◌≡◌, ap, refl, sym}
-use native.Mathlib.Omega.{arith}
 use Rattle.std.proofs.Common.{Result, Ok, Err}
 use Rattle.common.specs.Lists.{same}
+use Rattle.lines.proofs.Whole.{Whole, apart}
 use Rattle.lines.specs.Answer.{Answer, line, printed, refused}
 use Rattle.reading.specs.Read.{is_line}
 use Rattle.reading.specs.Shown.{Short, empty}
 use Rattle.refusal.specs.declared.Refusal.{Refusal}
 
-apart : {r : Refusal} {n : ℕ} → ◌≡◌ {A = Result ℕ Refusal} (Err r) (Ok n) → ⊥
-apart e = let z : ◌≡◌ {A = ℕ} 0 1 = cc in omega arith
+-- what a print shows has room in the scratch space
+pub short_of : (a : Answer) → Whole a → Short a
+short_of (refused r) w = tt
+short_of (line bs) w = w
 
 module _ (l t : List ℕ) where
   pub same_shown : (a : Answer) (n : ℕ) → Short a → printed a empty ≡ (Ok n, l) → same (take n l) t ≡ is_line a t

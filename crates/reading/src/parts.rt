@@ -1,22 +1,12 @@
 // What the words of a line name and write. Each function takes the line from its word on.
 ghost use Rattle.std.specs.Prelude.{◌≡◌, ◌≤◌, ◌<◌, ◌^◌, ◌*◌, drop};
 ghost use Rattle.arm7tdmi.specs.Names.{reg_named};
-ghost use Rattle.reading.specs.Parts.{amount_field, flag, list_in};
+ghost use Rattle.reading.specs.Parts.{amount_field, list_in};
 ghost use Rattle.text.specs.Digits.{value};
 ghost use Rattle.text.specs.Word.{word};
 
 use arm7tdmi::read_reg;
 use text::read::{first_word, next_word, read_number};
-
-// A flag as a number.
-pub fn as_flag(b: bool) -> u64
-    ensures { (result ≡ flag b) × (result ≤ 1) }
-{
-    if b {
-        return 1;
-    }
-    0
-}
 
 // The five bits of an amount of places: 32 stands as 0.
 pub fn amount_field(n: u64) -> u64
@@ -25,7 +15,7 @@ pub fn amount_field(n: u64) -> u64
     n % 32
 }
 
-// The register that the first word names, or 16.
+// The register that the first word names, or 16. That it is no more lets the check see that no sum of fields is too large.
 pub fn register(l: &[u8]) -> u8
     ensures { (result ≡ reg_named (word l.now)) × (result ≤ 16) }
 {
@@ -33,41 +23,34 @@ pub fn register(l: &[u8]) -> u8
 }
 
 // The number that the first word writes in a base.
-pub fn number<const BASE: u32>(l: &[u8]) -> u64
-    ensures { (result ≡ value BASE (word l.now)) × (result < 2 ^ 32) }
+pub fn number<const BASE: u32>(l: &[u8]) -> u32
+    ensures { result ≡ value BASE (word l.now) }
 {
-    read_number::<BASE>(first_word(l)) as u64
+    read_number::<BASE>(first_word(l))
 }
 
 // The number that the first word writes in hexadecimal behind `0x`.
-pub fn hexadecimal(l: &[u8]) -> u64
-    ensures { (result ≡ value 16 (drop 2 (word l.now))) × (result < 2 ^ 32) }
+#[tactic(auto, using(common::proofs::Lists::part_rest), unfolding(text::specs::Digits::value_from))]
+pub fn hexadecimal(l: &[u8]) -> u32
+    ensures { result ≡ value 16 (drop 2 (word l.now)) }
 {
     let w = first_word(l);
     if w.len() < 2 {
         return 0;
     }
-    read_number::<16>(&w[2..]) as u64
+    read_number::<16>(&w[2..])
 }
 
-// The bit of a register.
-fn list_bit(reg: u32) -> u64
-    requires { reg ≤ 16 }
-    ensures { (result ≡ 2 ^ reg) × (result ≤ 2 ^ 16) }
-{
-    1u64 << reg
-}
-
-// A register list: one name, and then the rest, of at most `left` names.
-pub fn register_list(left: u8, l: &[u8]) -> u64
+// A register list: one name, and then the rest, of at most `left` names, as the definition goes.
+pub fn register_list(left: u8, l: &[u8]) -> u32
     ensures { (result ≡ list_in left l.now) × (result ≤ left * 2 ^ 16) }
 {
     if left == 0 {
         return 0;
     }
     let name = first_word(l);
-    if name.len() == 0 {
+    if name.is_empty() {
         return 0;
     }
-    list_bit(read_reg(name)) + register_list(left - 1, next_word(l))
+    (1 << read_reg(name)) + register_list(left - 1, next_word(l))
 }

@@ -7,21 +7,21 @@ ghost use Rattle.refusal.specs.Refusal.{number};
 #[derive(Clone, Copy, Debug, PartialEq, Eq)]
 pub enum Refusal {
     // the condition bits are 1111 and the line would show the condition
-    NoCondition,
+    NoCondition = 1,
     // a halfword transfer of type 00
-    NoTransfer,
+    NoTransfer = 2,
     // the lent buffer is shorter than the line
-    NoRoom,
+    NoRoom = 3,
     // no word, or no call pair, prints the line
-    NoWord,
+    NoWord = 4,
     // the halfwords are not a first half and then a second
-    NoPair,
+    NoPair = 5,
     // the image has too many bytes, or not a multiple of 4
-    WrongImage,
+    WrongImage = 6,
     // the list of Thumb stretches is cut short, or a pair of it is wrong
-    WrongStretches,
+    WrongStretches = 7,
     // the place is past the image, or no start of a word
-    WrongPlace,
+    WrongPlace = 8,
 }
 
 // The number that C and the row program's output know a refusal by; 0 is none of them.
@@ -29,15 +29,6 @@ impl From<Refusal> for u32 {
     ghost from_gives = { λ r n. n ≡ number r };
 
     fn from(refusal: Refusal) -> u32 {
-        match refusal {
-            Refusal::NoCondition => 1,
-            Refusal::NoTransfer => 2,
-            Refusal::NoRoom => 3,
-            Refusal::NoWord => 4,
-            Refusal::NoPair => 5,
-            Refusal::WrongImage => 6,
-            Refusal::WrongStretches => 7,
-            Refusal::WrongPlace => 8,
-        }
+        refusal as u32
     }
 }

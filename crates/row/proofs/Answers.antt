@@ -11,7 +11,7 @@ use native.Mathlib.Nat.{add-suc, mod-eq_of_lt, pow-le-pow_right, pow-suc, suc-ad
 use native.Mathlib.Numerals.{add-one}
 use native.Mathlib.Omega.{arith}
 use Rattle.lines.specs.Answer.{Answer, refused, line, given, printed}
-use Rattle.lines.proofs.Whole.{Whole}
+use Rattle.lines.proofs.Whole.{Whole, apart}
 use Rattle.arm7tdmi.specs.declared.Form.TheVariants.{Bench}
 use Rattle.arm_print.proofs.Whole.{arm_whole}
 use Rattle.common.proofs.Tests.{and_left, and_right, by_test}
@@ -36,9 +36,6 @@ pub answer_short : (a : Answer) → Whole a → length (answer_text a) ≤ 80
 unfolding answer_text
 answer_short (refused r) w = let d = (dec_within (number r)).most in simp length-append (omega arith)
 answer_short (line bs) w = w
-
-apart : {r : Refusal} {n : ℕ} → ◌≡◌ {A = Result ℕ Refusal} (Err r) (Ok n) → ⊥
-apart e = let z : ◌≡◌ {A = ℕ} 0 1 = cc in omega arith
 
 -- what a print with room for any line gives
 module _ (l m : List ℕ) (room : 80 ≤ length l) where

@@ -14,7 +14,8 @@ pub const BLOCK: usize = 65536;
 
 pub const ROOM: usize = 6 * (HELD + BLOCK);
 
-// The bytes that are held of a row that a block cut. There is no heap, so they stand in an array, with their number; clauses see them as a list.
+// The bytes that are held of a row that a block cut. There is no heap, so they stand in an array, with their number. Clauses see them as a list,
+// and callers see that list alone and not the invariant: `few` says below what it bounds.
 #[derive(Drop)]
 pub struct Begun {
     bytes: [u8; HELD],
@@ -62,7 +63,7 @@ impl Begun {
     }
 
     // Another row begins.
-    fn hold(&mut self, s: &[u8])
+    pub fn hold(&mut self, s: &[u8])
         ensures { self.new ≡ held_of s.now }
     {
         self.length = 0;
@@ -125,7 +126,8 @@ fn answer_input(begun: &mut Begun, input: &[u8], out: &mut Writer<'_>)
     }
 }
 
-// The rows that end in a block: their answers stand at the output's start, so many bytes, and the row that does not end is held.
+// The rows that end in a block: their answers stand at the output's start, so many bytes, and the row that does not end is held. It answers how many and no
+// slice, as the contract says what all of the output holds then.
 pub fn answer_block(begun: &mut Begun, block: &[u8], out: &mut [u8; ROOM]) -> usize
     ensures out_after { length block.now ≤ BLOCK → (result, out.new) ≡ at_start (answers begun.old block.now) out.old }
     ensures room { result ≤ ROOM }

@@ -1,7 +1,7 @@
 // What the row program answers: for a row, and (block) for a block of its input.
 #![tactic(auto, using(text::proofs::Puts::written))]
 
-ghost use Rattle.std.specs.Prelude.{◌++◌, ◌≡◌, ◌+◌, ◌<◌, leb};
+ghost use Rattle.std.specs.Prelude.{◌++◌, ◌≡◌, ◌+◌, ◌<◌};
 ghost use Rattle.text.specs.Text.{text};
 ghost use Rattle.text.specs.Digits.{dec};
 ghost use Rattle.text.specs.Puts.{puts};
@@ -11,15 +11,16 @@ ghost use Rattle.row.specs.Row.{answer_text, hex_number, fields_of, word_line, r
 
 use arm_print::print_arm;
 use arm7tdmi::Form;
+use lines::LINE;
 use refusal::Refusal;
-use text::put::Writer;
+use text::put::{Writer, has_room};
 use text::read::digit_value;
 use thumb_print::print_thumb;
 
 pub mod block;
 
 // A word of one of the two sets.
-#[derive(Clone, Copy)]
+#[derive(Clone, Copy, Debug, PartialEq, Eq)]
 enum Word {
     Arm(u32),
     Thumb(u16),
@@ -43,11 +44,10 @@ fn hex_number(s: &[u8]) -> Option<u32>
 
 // The address and the number of the word of a row of a set, whose words have n digits.
 #[tactic(auto, using(crate::proofs::Answers::number_hex, crate::proofs::Answers::number_none), unfolding(crate::specs::Row::fields_of, crate::specs::Row::is_row))]
-fn fields_of(s: &[u8], letter: u8, n: usize) -> Option<(u32, u32)>
-    requires { n < 16 }
+fn fields_of(s: &[u8], letter: u8, n: u8) -> Option<(u32, u32)>
     ensures { result ≡ fields_of letter n s.now }
 {
-    if s.len() != 11 + n || s[0] != letter || s[1] != b' ' || s[10] != b' ' {
+    if s.len() != 11 + usize::from(n) || s[0] != letter || s[1] != b' ' || s[10] != b' ' {
         return None;
     }
     let address = hex_number(&s[2..10])?;
@@ -66,7 +66,7 @@ fn print_word(address: u32, word: Word, buf: &mut [u8]) -> Result<usize, Refusal
     }
 }
 
-// `!` and a refusal's number.
+// `!` and a refusal's number, without a line end, which the row's answer has. (That of `worked_listing` ends its line.)
 fn put_refusal(out: &mut Writer<'_>, refusal: Refusal)
     ensures { out.new ≡ puts out.old (text "!" ++ dec (number refusal)) }
 {
@@ -74,24 +74,17 @@ fn put_refusal(out: &mut Writer<'_>, refusal: Refusal)
     out.put_dec(u32::from(refusal));
 }
 
-// Whether any line fits from a place on.
-fn has_room(length: usize, at: usize) -> bool
-    ensures { result ≡ leb (at + 80) length }
-{
-    80 <= length && at <= length - 80
-}
-
 // The answer for a word: straight into the output where any line fits, else by way of a copy.
 fn put_word(out: &mut Writer<'_>, address: u32, word: Word)
     ensures { out.new ≡ puts out.old (answer_text (word_line address word)) }
 {
-    if has_room(out.bytes.len(), out.at) {
+    if has_room(out.bytes.len(), out.at, LINE) {
         return match print_word(address, word, &mut out.bytes[out.at..]) {
             Ok(n) => out.at += n,
             Err(refusal) => put_refusal(out, refusal),
         };
     }
-    let mut line = [0u8; 80];
+    let mut line = [0u8; LINE];
     match print_word(address, word, &mut line) {
         Ok(n) => out.put_text(&line[..n]),
         Err(refusal) => put_refusal(out, refusal),

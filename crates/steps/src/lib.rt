@@ -1,9 +1,10 @@
 // The steps of a listing: what stands at a place of an image, and its sheet line into a lent buffer.
 #![tactic(auto)]
 
-ghost use Rattle.std.specs.Prelude.{◌≡◌, ◌+◌, ◌≤◌, length, nat_le};
+ghost use Rattle.std.specs.Prelude.{◌≡◌, ◌+◌};
 ghost use Rattle.arm7tdmi.specs.Signed.{moved};
 ghost use Rattle.lines.specs.Answer.{printed};
+ghost use Rattle.image.specs.Bytes.{half};
 ghost use Rattle.image.specs.Stretches.{left};
 ghost use Rattle.steps.specs.Steps.{call_pair, span_in, span_bytes, span_line};
 ghost use Rattle.steps.specs.Listed.{listed_refusal, listed_offset, listed_bytes, listed_length, told, listed, list_step};
@@ -13,19 +14,60 @@ use arm7tdmi::Form;
 use image::{Image, Set, half_at, word_at};
 use pairs::print::print_pair;
 use refusal::Refusal;
+use text::put::has_room;
 use thumb::is_pair;
 use thumb_print::print_thumb;
 
 // What a step covers: an ARM word, a Thumb halfword, or the two halfwords of a call.
-#[derive(Clone, Copy)]
+#[derive(Clone, Copy, Debug, PartialEq, Eq)]
 pub enum Span {
     Word,
     Half,
     Pair,
 }
 
+impl Span {
+    // What a step covers at a place, by the set there.
+    #[tactic(auto, unfolding(crate::specs::Steps::span_in))]
+    fn of(image: &[u8], s: Set, at: usize) -> Span
+        ensures { result ≡ span_in image.now s at }
+    {
+        match s {
+            Set::Arm => Span::Word,
+            Set::Thumb(e) if call_pair(image, e, at) => Span::Pair,
+            Set::Thumb(_) => Span::Half,
+        }
+    }
+
+    // How many bytes that is.
+    pub fn bytes(self) -> usize
+        ensures { result ≡ span_bytes self }
+    {
+        match self {
+            Span::Word => 4,
+            Span::Half => 2,
+            Span::Pair => 4,
+        }
+    }
+
+    // What it shows at a place of an image, into a buffer.
+    #[tactic(auto, unfolding(crate::specs::Steps::span_line))]
+    pub fn print(self, image: &[u8], pc: u32, at: usize, line: &mut [u8]) -> Result<usize, Refusal>
+        ensures { printed (span_line image.now self pc at) line.old ≡ (result, line.new) }
+    {
+        match self {
+            Span::Word => print_arm(Form::Sheet, word_at(image, at), pc, line),
+            Span::Half => print_thumb(Form::Sheet, half_at(image, at), pc, line),
+            Span::Pair => {
+                let (first, second) = halves_at(image, at);
+                print_pair(first, second, pc, line)
+            }
+        }
+    }
+}
+
 // What a step answers.
-#[derive(Clone, Copy)]
+#[derive(Clone, Copy, Debug, PartialEq, Eq)]
 pub enum Listed {
     // offset, byte length, length of the line
     Line(usize, usize, usize),
@@ -54,10 +96,10 @@ impl Listed {
         ensures { result ≡ listed_offset self }
     {
         match self {
-            Listed::Line(offset, _, _) => offset,
-            Listed::Refused(_, offset, _) => offset,
-            Listed::NoRoom(offset) => offset,
-            Listed::End(offset) => offset,
+            Listed::Line(offset, _, _)
+            | Listed::Refused(_, offset, _)
+            | Listed::NoRoom(offset)
+            | Listed::End(offset) => offset,
         }
     }
 
@@ -82,11 +124,13 @@ impl Listed {
     }
 }
 
-// Whether so many bytes are left from a place to an end.
-fn has_bytes(at: usize, n: usize, end: usize) -> bool
-    ensures { result ≡ nat_le (at + n) end }
+// The two halfwords at a place.
+#[tactic(auto, unfolding(image::specs::Bytes::word))]
+fn halves_at(image: &[u8], at: usize) -> (u16, u16)
+    ensures { (result.0 ≡ half image.now at) × (result.1 ≡ half image.now (at + 2)) }
 {
-    n <= end && at <= end - n
+    let both = word_at(image, at);
+    ((both % 0x1_0000) as u16, (both / 0x1_0000) as u16)
 }
 
 // Whether a call pair stands at a place of a stretch that ends at e.
@@ -94,34 +138,8 @@ fn has_bytes(at: usize, n: usize, end: usize) -> bool
 fn call_pair(image: &[u8], e: usize, at: usize) -> bool
     ensures { result ≡ call_pair image.now e at }
 {
-    has_bytes(at, 4, e) && is_pair(half_at(image, at), half_at(image, at + 2))
-}
-
-// What a step covers at a place, by the set there.
-#[tactic(auto, unfolding(crate::specs::Steps::span_in))]
-fn span_in(image: &[u8], s: Set, at: usize) -> Span
-    ensures { result ≡ span_in image.now s at }
-{
-    match s {
-        Set::Arm => Span::Word,
-        Set::Thumb(e) => {
-            if call_pair(image, e, at) {
-                return Span::Pair;
-            }
-            Span::Half
-        }
-    }
-}
-
-// How many bytes that is.
-fn span_bytes(x: Span) -> usize
-    ensures { result ≡ span_bytes x }
-{
-    match x {
-        Span::Word => 4,
-        Span::Half => 2,
-        Span::Pair => 4,
-    }
+    let (first, second) = halves_at(image, at);
+    has_room(e, at, 4) && is_pair(first, second)
 }
 
 // The address of a place.
@@ -142,28 +160,15 @@ fn told(at: usize, bytes: usize, printed: Result<usize, Refusal>) -> Listed
     }
 }
 
-// What a step shows, into a buffer.
-#[tactic(auto, unfolding(crate::specs::Steps::span_line))]
-fn print_span(image: &[u8], x: Span, pc: u32, at: usize, line: &mut [u8]) -> Result<usize, Refusal>
-    requires { at + span_bytes x ≤ length image.now }
-    ensures { printed (span_line image.now x pc at) line.old ≡ (result, line.new) }
-{
-    match x {
-        Span::Word => print_arm(Form::Sheet, word_at(image, at), pc, line),
-        Span::Half => print_thumb(Form::Sheet, half_at(image, at), pc, line),
-        Span::Pair => print_pair(half_at(image, at), half_at(image, at + 2), pc, line),
-    }
-}
-
 // The step at a place, by the stretches from number next on.
 pub fn step_at(image: Image, next: usize, at: usize, line: &mut [u8]) -> Listed
     ensures { listed image.entry.bytes.now (left image.entry.stretches.now next) image.entry.base at line.old ≡ (result, line.new) }
 {
-    let x = span_in(image.bytes, image.set_at(next, at), at);
-    let bytes = span_bytes(x);
-    if has_bytes(at, bytes, image.bytes.len()) {
+    let x = Span::of(image.bytes, image.set_at(next, at), at);
+    let bytes = x.bytes();
+    if has_room(image.bytes.len(), at, bytes) {
         let pc = address(image.base, at);
-        return told(at, bytes, print_span(image.bytes, x, pc, at, line));
+        return told(at, bytes, x.print(image.bytes, pc, at, line));
     }
     Listed::End(at)
 }

@@ -1,6 +1,8 @@
 -- Laws of a writer. Assumes nothing.
-use Rattle.std.proofs.Common.{◌≡◌, refl, ap, sym, List, [], ◌∷◌, ◌++◌, ℕ}
-use Rattle.text.proofs.Wrote.{stores_append}
+use Rattle.std.proofs.Common.{◌≡◌, refl, ap, sym, List, [], ◌∷◌, ◌++◌, ℕ, ◌+◌, ◌≤◌, length, take, drop, append_assoc}
+use borrow.Rule.Slice.PartMut.{put_mid}
+use lib.Seq.{drop-drop}
+use Rattle.text.proofs.Wrote.{placed, stores_append}
 use Rattle.text.specs.Puts.{place_of, puts, standing}
 use Rattle.text.specs.Wrote.{Wrote}
 use Rattle.text.specs.declared.put.Writer.{Writer}
@@ -30,3 +32,10 @@ wrote_of w v bs e = rw e (puts_wrote w bs)
 
 -- what a write of several texts is: the writes of its parts
 pub ruleset written = (puts_append, puts_cons, puts_nil)
+
+-- a write for which there is room, by what the buffer holds then
+pub puts_placed : (w : Writer) (bs : List ℕ) → w.at + length bs ≤ length w.bytes.now
+    → record w { bytes = record w.bytes { now = put_mid w.at (length bs) w.bytes.now bs }; at = w.at + length bs } ≡ puts w bs
+unfolding puts
+puts_placed w bs h =
+    rw (drop-drop (length bs) w.at w.bytes.now, ← append_assoc (take w.at w.bytes.now) bs (drop (w.at + length bs) w.bytes.now)) (ap (standing w) (placed w.bytes.now w.at bs h).after)

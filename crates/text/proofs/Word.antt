@@ -1,10 +1,10 @@
 -- Laws of the words of a line: a word, and what separates it from the next, are read back; numbers are words. Assumes nothing.
 use mathlib.Core.Path.{◌≡◌, refl, sym}
-use mathlib.Core.Bool.{Bool, true, false, cond, not, beq, true≢false}
+use mathlib.Core.Bool.{Bool, true, false, not, true≢false}
 use mathlib.Core.List.{List, [], ◌∷◌, ◌++◌}
 use Prim.Native.Nat.{ℕ, zero, suc, ◌+◌, ◌-◌, ◌/◌, ◌%◌, ◌≤◌, ◌<◌}
 use native.Mathlib.Omega.{arith}
-use lib.Dec.{ltb, leb, eqb}
+use lib.Dec.{ltb, eqb}
 use lib.ListN.{length, get_or}
 use lib.Seq.{take_at, drop_at}
 use borrow.Author.Tests.{eqb-true}
@@ -13,20 +13,6 @@ use Rattle.common.proofs.Tests.{by_test, and_left, and_right, at}
 use Rattle.text.specs.Word.{is_word, is_gap, word, behind, after, all}
 use Rattle.text.specs.Digits.{digit, digits, hex, prefixed, dec}
 use Rattle.text.proofs.Digits.{below}
-
--- ---- a byte, by the ranges that the code tests: 256 tests
-beq_eq : (a b : Bool) → beq a b ≡ true → a ≡ b
-beq_eq true true e = refl
-beq_eq true false e = absurd (true≢false (sym e))
-beq_eq false true e = absurd (true≢false (sym e))
-beq_eq false false e = refl
-
-abbrev in_ranges : ℕ → Bool
-in_ranges x = cond (ltb x 48) false (cond (ltb x 58) true (cond (ltb x 97) false (leb x 122)))
-
-pub word_byte : (x : ℕ) → x < 256 → in_ranges x ≡ is_word x
-unfolding is_word
-word_byte x h = beq_eq _ _ (at (λ x. beq (in_ranges x) (is_word x)) 256 refl x h)
 
 -- ---- a run ends where another byte stands
 -- whether the text is empty or begins with a byte that passes

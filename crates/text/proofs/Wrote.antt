@@ -1,15 +1,14 @@
 -- Laws of writing: one write after the other, what is kept, and where the bytes stand. Assumes nothing.
 use mathlib.Core.Path.{◌≡◌, refl, ap, sym, ◌∙◌}
-use mathlib.Core.Bool.{Bool, true, false, cond}
 use mathlib.Core.List.{List, [], ◌∷◌, ◌++◌, append-nil}
 use Prim.Native.Nat.{ℕ, suc, ◌+◌, ◌-◌, ◌≤◌, ◌<◌}
 use native.Mathlib.Nat.{add-zero, zero-add, add-suc, suc-add}
 use native.Mathlib.Numerals.{add-one}
 use native.Mathlib.Omega.{arith}
-use borrow.Author.Tests.{lt-ltb, le-ltb, ltb-true, ltb-false}
+use borrow.Author.Tests.{ltb-true, ltb-false}
 use lib.Dec.{ltb}
 use lib.ListN.{length, set, take, drop, get_or, length-set, length-take, take-append-drop}
-use lib.Seq.{append_snoc, drop-length, drop-set-lt, length-take-le, set-get_or, take_all, take-append_seam, take-nil, take-suc, take-suc-set}
+use lib.Seq.{append_snoc, drop-length, drop-set-lt, length-take-le, take_all, take-append_seam, take-nil, take-suc, take-suc-set}
 use Rattle.common.proofs.Tests.{by_test}
 use Rattle.text.specs.Wrote.{Behind, Place, Wrote, fitting, store, stores}
 

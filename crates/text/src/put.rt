@@ -1,5 +1,5 @@
 // Writers. Each stores bytes into a lent buffer from a place on, as far as there is room.
-ghost use Rattle.std.specs.Prelude.{◌≡◌, cond, [], ◌∷◌, ◌≤◌, ◌<◌, ◌+◌, ◌-◌, ◌/◌, ◌%◌, take, drop};
+ghost use Rattle.std.specs.Prelude.{◌≡◌, cond, [], ◌∷◌, ◌≤◌, ◌<◌, ◌+◌, ◌-◌, ◌/◌, ◌%◌, take, drop, leb};
 ghost use Rattle.text.specs.Digits.{digit, digits, hex, dec, prefixed};
 ghost use Rattle.text.specs.Puts.{puts};
 
@@ -16,9 +16,10 @@ impl<'a> Writer<'a> {
     pub fn put_byte(&mut self, b: u8)
         ensures { self.new ≡ puts self.old (b ∷ []) }
     {
-        if self.at < self.bytes.len() {
-            self.bytes[self.at] = b;
-            self.at += 1;
+        let at = self.at;
+        if at < self.bytes.len() {
+            self.bytes[at] = b;
+            self.at = at + 1;
         }
     }
 
@@ -26,15 +27,30 @@ impl<'a> Writer<'a> {
     pub fn put_if(&mut self, wanted: bool, b: u8)
         ensures { self.new ≡ puts self.old (cond wanted (b ∷ []) []) }
     {
-        if self.at < self.bytes.len() {
-            let held = self.bytes[self.at];
-            self.bytes[self.at] = either(wanted, b, held);
-            self.at += usize::from(wanted);
+        let at = self.at;
+        if at < self.bytes.len() {
+            let held = self.bytes[at];
+            self.bytes[at] = if wanted { b } else { held };
+            self.at = at + usize::from(wanted);
         }
     }
 
-    // The bytes of a text.
+    // The bytes of a text: at once where there is room for all of them.
     pub fn put_text(&mut self, s: &[u8])
+        ensures { self.new ≡ puts self.old s.now }
+    {
+        let at = self.at;
+        if has_room(self.bytes.len(), at, s.len()) {
+            self.bytes[at..at + s.len()].copy_from_slice(s);
+            self.at = at + s.len();
+        } else {
+            self.put_each(s);
+        }
+    }
+
+    // As many bytes of a text as there is room for. Not inlined, as few texts are cut.
+    #[inline(never)]
+    fn put_each(&mut self, s: &[u8])
         ensures { self.new ≡ puts self.old s.now }
     {
         for b in s {
@@ -49,19 +65,19 @@ impl<'a> Writer<'a> {
         ensures { self.new ≡ puts self.old (digits BASE k w n) }
     {
         let mut scratch = [0u8; 10];
-        let mut i = k;
+        let mut first = k;
         let mut wide = w;
         let mut rest = n;
-        while 0 < i {
+        for i in (0..k).rev() {
             if rest as u64 + wide as u64 == 0 {
-                return self.put_text(&scratch[i..k]);
+                break;
             }
-            i -= 1;
             scratch[i] = last_digit::<BASE>(rest);
             wide = wide.saturating_sub(1);
             rest /= BASE;
+            first = i;
         }
-        self.put_text(&scratch[i..k]);
+        self.put_text(&scratch[first..k]);
     }
 
     // A number in lowercase hexadecimal, at least w digits.
@@ -87,11 +103,11 @@ impl<'a> Writer<'a> {
     }
 }
 
-// One byte or another.
-fn either(b: bool, x: u8, y: u8) -> u8
-    ensures { result ≡ cond «b» x y }
+// Whether a buffer of a length has room for n bytes from a place on.
+pub fn has_room(length: usize, at: usize, n: usize) -> bool
+    ensures { result ≡ leb (at + n) length }
 {
-    if b { x } else { y }
+    at <= length && n <= length - at
 }
 
 // The last digit of a number.

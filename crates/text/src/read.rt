@@ -1,23 +1,15 @@
 // Readers of what the writers write. Each takes any bytes.
-ghost use Rattle.std.specs.Prelude.{◌≡◌, ◌+◌, ◌*◌, ◌%◌, ◌^◌, ◌≤◌, ◌<◌, length};
+ghost use Rattle.std.specs.Prelude.{◌≡◌, ◌+◌, ◌*◌, ◌%◌, ◌^◌, ◌≤◌, ◌<◌, length, get_or};
 ghost use Rattle.common.specs.Lists.{first};
 ghost use Rattle.text.specs.Digits.{digit_value, value};
-ghost use Rattle.text.specs.Word.{is_word, is_gap, word, behind, after, packed};
+ghost use Rattle.text.specs.Word.{is_word, is_gap, word, behind, after, has, packed};
 
 // Whether a byte is a digit or a small letter.
+#[tactic(auto, unfolding(crate::specs::Word::is_word))]
 pub fn is_word(x: u8) -> bool
     ensures { result ≡ is_word x }
 {
-    if x < 48 {
-        return false;
-    }
-    if x <= 57 {
-        return true;
-    }
-    if x < 97 {
-        return false;
-    }
-    x <= 122
+    x.is_ascii_digit() || x.is_ascii_lowercase()
 }
 
 // How many bytes the word has that the line begins with.
@@ -27,7 +19,7 @@ fn word_length(s: &[u8]) -> usize
     s.iter().position(|x| !is_word(*x)).unwrap_or(s.len())
 }
 
-// How many bytes stand before the first word.
+// How many bytes stand before the first word. Each of the two is one call: with the test as a parameter, a call would be no shorter.
 fn gap_length(s: &[u8]) -> usize
     ensures { (result ≡ first is_word s.now) × (result ≤ length s.now) }
 {
@@ -98,9 +90,23 @@ pub fn pack(s: &[u8]) -> u64
     s.iter().rev().fold(0, |v: u64, x| (v << 8) + u64::from(*x))
 }
 
-// Where an item stands in a list, or the list's length where it does not: a line that is cut there is whole then.
+// Where an item stands in a list, or the list's length where it does not: among names, that is the number of none of them.
 pub fn index_of<T: PartialEq + Copy>(xs: &[T], x: T) -> usize
     ensures { (result ≡ first (λ y. T.eq y x) xs.now) × (result ≤ length xs.now) }
 {
     xs.iter().position(|y| *y == x).unwrap_or(xs.len())
+}
+
+// Whether a byte stands in a line.
+pub fn has(s: &[u8], mark: u8) -> bool
+    ensures { result ≡ has mark s.now }
+{
+    s.contains(&mark)
+}
+
+// An item of a list, or another past its end.
+pub fn item_or<T: Copy>(xs: &[T], i: usize, none: T) -> T
+    ensures { result ≡ get_or xs.now i none }
+{
+    xs.get(i).copied().unwrap_or(none)
 }

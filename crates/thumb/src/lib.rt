@@ -91,7 +91,7 @@ fn thumb_rows(form: Form) -> [Row<ThumbFormat>; 20]
     ]
 }
 
-// The kind of a word.
+// The kind of a word, as ARM's `arm_format` has it over rows of its own.
 pub fn thumb_format(form: Form, raw: u16) -> ThumbFormat
     ensures { result ≡ thumb_format form raw }
 {
@@ -162,7 +162,7 @@ impl Halfwords {
     }
 }
 
-// A decoded word. A struct of this crate, and no instance of one that arm shares, so that it has functions of its own, as in the Rust.
+// A decoded word. Kind and word are other types in arm, and a struct of both sets could have no functions of its own here, as in the Rust.
 #[derive(Clone, Copy, Debug, PartialEq, Eq)]
 pub struct ThumbInstruction {
     pub fmt: ThumbFormat,
@@ -208,7 +208,7 @@ pub enum OpFormat3 {
     SUB,
 }
 
-// The operation of a number, by its lowest two bits.
+// The operation of a number, by its lowest two bits. This and the two like it name the values of their own enums.
 #[tactic(auto, unfolding(crate::specs::Fields::op_format3))]
 impl From<u32> for OpFormat3 {
     ghost from_gives = { λ n x. x ≡ op_format3 n };
@@ -383,7 +383,7 @@ pub fn cond(raw: u32) -> ArmCond
     ArmCond::from(bit_range(raw, 8, 12))
 }
 
-// The sign-extended 8-bit field times two: its sign goes to the top, and the shift back keeps it.
+// The sign-extended 8-bit field times two: its sign goes to the top, and the shift back keeps it. This and the next two are one expression each, as ARM's.
 pub fn bcond_offset(raw: u32) -> i32
     ensures { result ≡ bcond_offset raw }
 {

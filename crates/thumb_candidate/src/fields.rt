@@ -1,182 +1,191 @@
-// What the operands of a line fill in, of each kind. `one`, `two` and `three` are the line from those words on; `first`, `second` and `third` are the registers
-// that they name.
-ghost use Rattle.std.specs.Prelude.{◌≡◌, List, cond, true, false, ℕ, ◌+◌, ◌*◌, ◌-◌, ◌/◌, ◌%◌, ◌≤◌, ◌<◌, ◌^◌, eqb, ltb, drop};
+// What the operands of a line fill in, of each kind.
+ghost use Rattle.std.specs.Prelude.{◌≡◌, cond, eqb, true, false, ℕ, ◌+◌, ◌*◌, ◌-◌, ◌/◌, ◌%◌, ◌^◌, ltb};
 ghost use Rattle.arm7tdmi.specs.Signed.{moved};
-ghost use Rattle.text.specs.Digits.{value};
-ghost use Rattle.text.specs.Word.{after, has, word};
-ghost use Rattle.thumb_candidate.specs.Candidate.{block_in, call_unit, shift_in, signed, sp_in, transfer_unit};
-ghost use Rattle.reading.specs.Parts.{amount_field, flag, list_in, reg_in};
+ghost use Rattle.thumb_candidate.specs.Candidate.{block_in, call_unit, high_in, low_in, offset_in, shift_in, signed, sp_in, stack_in, third_in, transfer_unit, wide_in};
+ghost use Rattle.text.specs.Word.{has};
+ghost use Rattle.reading.specs.Parts.{amount_field, bare_in, dec_in, flag, hex_in, reg_in};
 
+use crate::parts::Sought;
 use arm7tdmi::Form;
-use reading::parts::{amount_field, as_flag, hexadecimal, number, register_list};
+use reading::parts::{hexadecimal, number, register_list};
+use text::read::has;
 
 // Rd and Rs, or Rd and Rb.
-pub fn low(first: u8, second: u8) -> u64
-    ensures { (result ≡ second * 2 ^ 3 + first) × (result < 2 ^ 12) }
+#[tactic(auto, unfolding(crate::specs::Candidate::low_in))]
+pub fn low(sought: &Sought) -> u16
+    ensures { result ≡ low_in sought.now.line.now }
 {
-    second as u64 * 8 + first as u64
+    u16::from(sought.second) * 8 + u16::from(sought.first)
 }
 
 // Ro, Rd and Rb.
-pub fn three_low(first: u8, second: u8, third: u8) -> u64
-    ensures { (result ≡ third * 2 ^ 6 + (second * 2 ^ 3 + first)) × (result < 2 ^ 20) }
+pub fn three_low(sought: &Sought) -> u32
+    ensures { result ≡ reg_in 3 sought.now.line.now * 2 ^ 6 + low_in sought.now.line.now }
 {
-    third as u64 * 64 + low(first, second)
+    u32::from(sought.third) * 64 + u32::from(low(sought))
 }
 
 // LSL, LSR and ASR, by their capitals.
-fn shift(line: &[u8]) -> u64
-    ensures { (result ≡ shift_in line.now) × (result ≤ 2) }
+#[tactic(auto, unfolding(crate::specs::Candidate::shift_in))]
+fn shift(sought: &Sought) -> u8
+    ensures { result ≡ shift_in sought.now.line.now }
 {
-    if line.contains(&b'A') {
+    if has(sought.line, b'A') {
         return 2;
     }
-    as_flag(line.contains(&b'R'))
+    u8::from(has(sought.line, b'R'))
 }
 
-// A shift by a number.
-pub fn shifted(line: &[u8], first: u8, second: u8, three: &[u8]) -> u64
-    ensures { (result ≡ shift_in line.now * 2 ^ 11 + amount_field (value 10 (word three.now)) * 2 ^ 6 + (second * 2 ^ 3 + first)) × (result < 2 ^ 20) }
+// A shift by a number: 32 stands as 0.
+pub fn shifted(sought: &Sought) -> u32
+    ensures { result ≡ shift_in sought.now.line.now * 2 ^ 11 + amount_field (dec_in 3 sought.now.line.now) * 2 ^ 6 + low_in sought.now.line.now }
 {
-    shift(line) * 2048 + amount_field(number::<10>(three)) * 64 + low(first, second)
+    let amount = number::<10>(sought.three) % 32;
+    u32::from(shift(sought)) * 2048 + amount * 64 + u32::from(low(sought))
 }
 
 // The last operand of add and sub: a number, which `#` says, or a register.
-fn last_of(line: &[u8], third: u8, three: &[u8]) -> u64
-    ensures { (result ≡ cond (has 35 line.now) (2 ^ 10 + value 16 (word three.now) % 2 ^ 3 * 2 ^ 6) (third * 2 ^ 6)) × (result < 2 ^ 14) }
+#[tactic(auto, unfolding(crate::specs::Candidate::third_in))]
+fn third(sought: &Sought) -> u16
+    ensures { result ≡ third_in sought.now.line.now }
 {
-    if line.contains(&b'#') {
-        return 1024 + number::<16>(three) % 8 * 64;
+    if has(sought.line, b'#') {
+        return 1024 + (number::<16>(sought.three) % 8) as u16 * 64;
     }
-    third as u64 * 64
+    u16::from(sought.third) * 64
 }
 
 // add and sub.
-pub fn add_sub(line: &[u8], first: u8, second: u8, third: u8, three: &[u8]) -> u64
-    ensures { (result ≡ cond (has 35 line.now) (2 ^ 10 + value 16 (word three.now) % 2 ^ 3 * 2 ^ 6) (third * 2 ^ 6) + (second * 2 ^ 3 + first)) × (result < 2 ^ 20) }
+pub fn add_sub(sought: &Sought) -> u32
+    ensures { result ≡ third_in sought.now.line.now + low_in sought.now.line.now }
 {
-    last_of(line, third, three) + low(first, second)
+    u32::from(third(sought)) + u32::from(low(sought))
 }
 
-// A register, and a byte of a number that is counted by a unit.
-pub fn with_byte<const UNIT: u64>(first: u8, l: &[u8]) -> u64
-    requires { 0 < UNIT }
-    ensures { (result ≡ first * 2 ^ 8 + value 16 (drop 2 (word l.now)) / UNIT % 2 ^ 8) × (result < 2 ^ 17) }
+// A register and a byte.
+pub fn with_byte(sought: &Sought, n: u32) -> u16
+    ensures { result ≡ reg_in 1 sought.now.line.now * 2 ^ 8 + n % 2 ^ 8 }
 {
-    first as u64 * 256 + hexadecimal(l) / UNIT % 256
+    u16::from(sought.first) * 256 + (n % 256) as u16
+}
+
+// A register and a byte that counts words.
+#[tactic(auto, unfolding(crate::specs::Candidate::wide_in))]
+pub fn wide(sought: &Sought) -> u16
+    ensures { result ≡ wide_in sought.now.line.now }
+{
+    with_byte(sought, hexadecimal(sought.three) / 4)
 }
 
 // High registers; bx, of the bits 0x4700, has a source alone.
-pub fn high(b: u64, first: u8, second: u8) -> u64
-    ensures { (result ≡ cond (eqb b 0x4700) (first * 2 ^ 3) (first / 2 ^ 3 * 2 ^ 7 + second * 2 ^ 3 + first % 2 ^ 3)) × (result < 2 ^ 20) }
+#[tactic(auto, unfolding(crate::specs::Candidate::high_in))]
+pub fn high(bits: u16, sought: &Sought) -> u16
+    ensures { result ≡ high_in bits sought.now.line.now }
 {
-    let n = first as u64;
-    if b == 0x4700 {
-        return n * 8;
+    let first = u16::from(sought.first);
+    if bits == 0x4700 {
+        return first * 8;
     }
-    n / 8 * 128 + second as u64 * 8 + n % 8
+    first / 8 * 128 + u16::from(sought.second) * 8 + first % 8
 }
 
-// A transfer with a number that is counted by a unit.
-pub fn with_unit<const UNIT: u64>(first: u8, second: u8, three: &[u8]) -> u64
-    requires { 0 < UNIT }
-    ensures { (result ≡ value 16 (drop 2 (word three.now)) / UNIT % 2 ^ 5 * 2 ^ 6 + (second * 2 ^ 3 + first)) × (result < 2 ^ 20) }
+// A transfer with a number.
+pub fn with_number(sought: &Sought, n: u32) -> u32
+    ensures { result ≡ n % 2 ^ 5 * 2 ^ 6 + low_in sought.now.line.now }
 {
-    hexadecimal(three) / UNIT % 32 * 64 + low(first, second)
+    n % 32 * 64 + u32::from(low(sought))
 }
 
-// A transfer with a number: of bytes (bit 12) or words.
-pub fn with_number(b: u64, first: u8, second: u8, three: &[u8]) -> u64
-    ensures { (result ≡ value 16 (drop 2 (word three.now)) / transfer_unit b % 2 ^ 5 * 2 ^ 6 + (second * 2 ^ 3 + first)) × (result < 2 ^ 20) }
+// A transfer with a number that counts bytes (bit 12) or words.
+pub fn transfer(bits: u16, sought: &Sought) -> u32
+    ensures { result ≡ hex_in 3 sought.now.line.now / transfer_unit bits % 2 ^ 5 * 2 ^ 6 + low_in sought.now.line.now }
 {
-    if b / 0x1000 % 2 == 1 {
-        return with_unit::<1>(first, second, three);
+    let n = hexadecimal(sought.three);
+    if bits / 0x1000 % 2 == 1 {
+        return with_number(sought, n);
     }
-    with_unit::<4>(first, second, three)
+    with_number(sought, n / 4)
 }
 
 // An address from pc or sp.
-pub fn address(first: u8, second: u8, three: &[u8]) -> u64
-    ensures { (result ≡ flag (eqb second 13) * 2 ^ 11 + (first * 2 ^ 8 + value 16 (drop 2 (word three.now)) / 4 % 2 ^ 8)) × (result < 2 ^ 20) }
+pub fn address(sought: &Sought) -> u32
+    ensures { result ≡ flag (eqb (reg_in 2 sought.now.line.now) 13) * 2 ^ 11 + wide_in sought.now.line.now }
 {
-    as_flag(second == 13) * 2048 + with_byte::<4>(first, three)
+    u32::from(sought.second == 13) * 2048 + u32::from(wide(sought))
 }
 
 // The number that sp is moved by, and its sign.
-fn with_sign(minus: bool, n: u64) -> u64
-    ensures { (result ≡ signed minus n) × (result < 2 ^ 20) }
+fn with_sign(minus: bool, n: u32) -> u32
+    ensures { result ≡ signed minus n }
 {
-    as_flag(minus) * 128 + n / 4 % 128
+    u32::from(minus) * 128 + n / 4 % 128
 }
 
 // add of sp on the bench: a large number is one subtracted.
-fn sp_bench(two: &[u8]) -> u64
-    ensures { (result ≡ cond (ltb (value 16 (word two.now)) (2 ^ 31)) (signed false (value 16 (word two.now))) (signed true (2 ^ 32 - value 16 (word two.now)))) × (result < 2 ^ 20) }
+fn sp_bench(sought: &Sought) -> u32
+    ensures { result ≡ cond (ltb (bare_in 2 sought.now.line.now) (2 ^ 31)) (signed false (bare_in 2 sought.now.line.now)) (signed true (2 ^ 32 - bare_in 2 sought.now.line.now)) }
 {
-    let n = number::<16>(two);
+    let n = number::<16>(sought.two);
     if n < 0x8000_0000 {
         return with_sign(false, n);
     }
-    with_sign(true, 0x1_0000_0000 - n)
+    with_sign(true, n.wrapping_neg())
 }
 
 // add of sp on the sheet.
-fn sp_sheet(line: &[u8], two: &[u8]) -> u64
-    ensures { (result ≡ signed (has 45 line.now) (value 16 (drop 2 (word two.now)))) × (result < 2 ^ 20) }
+fn sp_sheet(sought: &Sought) -> u32
+    ensures { result ≡ signed (has 45 sought.now.line.now) (hex_in 2 sought.now.line.now) }
 {
-    let minus = line.contains(&b'-');
-    with_sign(minus, hexadecimal(two))
+    with_sign(has(sought.line, b'-'), hexadecimal(sought.two))
 }
 
 // add of sp.
-pub fn sp(form: Form, line: &[u8], two: &[u8]) -> u64
-    ensures { (two.now ≡ after (after line.now) → result ≡ sp_in form line.now) × (result < 2 ^ 20) }
+#[tactic(auto, unfolding(crate::specs::Candidate::sp_in))]
+pub fn sp(sought: &Sought) -> u32
+    ensures { result ≡ sp_in sought.now.form sought.now.line.now }
 {
-    match form {
-        Form::Bench => sp_bench(two),
-        Form::Sheet => sp_sheet(line, two),
+    match sought.form {
+        Form::Bench => sp_bench(sought),
+        Form::Sheet => sp_sheet(sought),
     }
 }
 
 // push and pop: eight registers, and lr or pc as bit 8.
-pub fn stack(one: &[u8]) -> u64
-    ensures { (result ≡ list_in 9 one.now % 2 ^ 8 + flag (ltb (2 ^ 8) (list_in 9 one.now)) * 2 ^ 8) × (result < 2 ^ 20) }
+#[tactic(auto, unfolding(crate::specs::Candidate::stack_in))]
+pub fn stack(sought: &Sought) -> u32
+    ensures { result ≡ stack_in sought.now.line.now }
 {
-    let list = register_list(9, one);
-    list % 256 + as_flag(256 < list) * 256
+    let list = register_list(9, sought.one);
+    list % 256 + u32::from(256 < list) * 256
 }
 
 // The base and the registers; the bench shows the registers alone.
-pub fn block(form: Form, first: u8, two: &[u8]) -> u64
-    ensures { ((l : List ℕ) → first ≡ reg_in 1 l → two.now ≡ after (after l) → result ≡ block_in form l) × (result < 2 ^ 20) }
+#[tactic(auto, unfolding(crate::specs::Candidate::block_in))]
+pub fn block(sought: &Sought) -> u32
+    ensures { result ≡ block_in sought.now.form sought.now.line.now }
 {
-    let list = register_list(8, two);
-    match form {
+    let list = register_list(8, sought.two);
+    match sought.form {
         Form::Bench => list,
-        Form::Sheet => first as u64 * 256 + list,
+        Form::Sheet => u32::from(sought.first) * 256 + list,
     }
 }
 
 // How far a target is from the address plus 4, halved.
-pub fn offset(pc: u32, one: &[u8]) -> u64
-    ensures { result ≡ moved (value 16 (drop 2 (word one.now))) (2 ^ 32 - moved pc 4) / 2 }
+#[tactic(auto, unfolding(crate::specs::Candidate::offset_in))]
+pub fn offset(sought: &Sought) -> u32
+    ensures { result ≡ offset_in sought.now.pc sought.now.line.now }
 {
-    (hexadecimal(one) + (0x1_0000_0000 - (pc as u64 + 4) % 0x1_0000_0000)) % 0x1_0000_0000 / 2
+    hexadecimal(sought.one).wrapping_sub(sought.pc.wrapping_add(4)) / 2
 }
 
-// By how much the half of a call is counted.
-fn call_unit(b: u64) -> u64
-    ensures { (result ≡ call_unit b) × (0 < result) }
+// The half of a call, which counts half words (bit 11) or 4096.
+pub fn call(bits: u16, sought: &Sought) -> u32
+    ensures { result ≡ hex_in 1 sought.now.line.now / call_unit bits % 2 ^ 11 }
 {
-    if b / 0x0800 % 2 == 1 {
-        return 2;
+    let target = hexadecimal(sought.one);
+    if bits / 0x0800 % 2 == 1 {
+        return target / 2 % 2048;
     }
-    4096
-}
-
-// The half of a call.
-pub fn call(b: u64, one: &[u8]) -> u64
-    ensures { (result ≡ value 16 (drop 2 (word one.now)) / call_unit b % 2 ^ 11) × (result < 2 ^ 20) }
-{
-    hexadecimal(one) / call_unit(b) % 2048
+    target / 4096 % 2048
 }

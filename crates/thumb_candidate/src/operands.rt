@@ -1,85 +1,66 @@
 // The candidate of a row.
-ghost use Rattle.std.specs.Prelude.{◌≡◌, ◌<◌, ◌^◌};
+ghost use Rattle.std.specs.Prelude.{◌≡◌};
 ghost use Rattle.thumb_candidate.specs.Candidate.{candidate, operands, suits};
 
 use crate::fields::{
-    add_sub, address, block, call, high, low, offset, shifted, sp, stack, three_low, with_byte,
-    with_number, with_unit,
+    add_sub, address, block, call, high, low, offset, shifted, sp, stack, three_low, transfer,
+    wide, with_byte, with_number,
 };
 use crate::parts::Sought;
 use reading::parts::hexadecimal;
 use thumb::ThumbFormat;
 use thumb_mnemonic::Row;
 
-// Whether a kind may have printed a line with its mnemonic, by the registers that words 2 and 3 name.
-pub fn suits(fmt: ThumbFormat, sought: &Sought) -> bool
-    ensures { result ≡ suits fmt sought.now.line.now }
+// Whether a kind may have printed a line with its mnemonic, by the registers that words 2 and 3 name. A `match` on the kind, here and below, so that each kind has
+// an answer of its own.
+#[tactic(auto, unfolding(crate::specs::Candidate::suits))]
+pub fn suits(kind: ThumbFormat, sought: &Sought) -> bool
+    ensures { result ≡ suits kind sought.now.line.now }
 {
-    let second = sought.second;
-    let third = sought.third;
-    match fmt {
-        ThumbFormat::MoveShiftedReg => true,
-        ThumbFormat::AddSub => second < 8,
-        ThumbFormat::DataProcessImm => second == 16,
-        ThumbFormat::AluOps => true,
-        ThumbFormat::HiRegOpOrBranchExchange => true,
-        ThumbFormat::LdrPc => second == 15,
-        ThumbFormat::LdrStrRegOffset => third < 8,
-        ThumbFormat::LdrStrSHB => third < 8,
-        ThumbFormat::LdrStrImmOffset => second < 8,
-        ThumbFormat::LdrStrHalfWord => second < 8,
-        ThumbFormat::LdrStrSp => second == 13,
-        ThumbFormat::LoadAddress => 12 < second,
-        ThumbFormat::AddSp => true,
-        ThumbFormat::PushPop => true,
-        ThumbFormat::LdmStm => true,
-        ThumbFormat::BranchConditional => true,
-        ThumbFormat::Swi => true,
-        ThumbFormat::Branch => true,
-        ThumbFormat::BranchLongWithLink => true,
-        ThumbFormat::Undefined => true,
+    match kind {
+        ThumbFormat::AddSub => sought.second < 8,
+        ThumbFormat::DataProcessImm => sought.second == 16,
+        ThumbFormat::LdrPc => sought.second == 15,
+        ThumbFormat::LdrStrRegOffset | ThumbFormat::LdrStrSHB => sought.third < 8,
+        ThumbFormat::LdrStrImmOffset | ThumbFormat::LdrStrHalfWord => sought.second < 8,
+        ThumbFormat::LdrStrSp => sought.second == 13,
+        ThumbFormat::LoadAddress => 12 < sought.second,
+        _ => true,
     }
 }
 
-// What the operands of a line fill in, of a kind and the bits b of its mnemonic.
-fn operands_of(fmt: ThumbFormat, b: u64, sought: &Sought) -> u64
-    ensures { (result ≡ operands fmt b sought.now.form sought.now.pc sought.now.line.now) × (result < 2 ^ 20) }
+// What the operands of a line fill in, of a kind and the bits of its mnemonic.
+#[tactic(auto, unfolding(crate::specs::Candidate::operands))]
+fn operands_of(kind: ThumbFormat, bits: u16, sought: &Sought) -> u32
+    ensures { result ≡ operands kind bits sought.now.form sought.now.pc sought.now.line.now }
 {
-    let line = sought.line;
-    let one = sought.one;
-    let two = sought.two;
-    let three = sought.three;
-    let first = sought.first;
-    let second = sought.second;
-    let third = sought.third;
-    match fmt {
-        ThumbFormat::MoveShiftedReg => shifted(line, first, second, three),
-        ThumbFormat::AddSub => add_sub(line, first, second, third, three),
-        ThumbFormat::DataProcessImm => with_byte::<1>(first, two),
-        ThumbFormat::AluOps => low(first, second),
-        ThumbFormat::HiRegOpOrBranchExchange => high(b, first, second),
-        ThumbFormat::LdrPc => with_byte::<4>(first, three),
-        ThumbFormat::LdrStrRegOffset => three_low(first, second, third),
-        ThumbFormat::LdrStrSHB => three_low(first, second, third),
-        ThumbFormat::LdrStrImmOffset => with_number(b, first, second, three),
-        ThumbFormat::LdrStrHalfWord => with_unit::<2>(first, second, three),
-        ThumbFormat::LdrStrSp => with_byte::<4>(first, three),
-        ThumbFormat::LoadAddress => address(first, second, three),
-        ThumbFormat::AddSp => sp(sought.form, line, two),
-        ThumbFormat::PushPop => stack(one),
-        ThumbFormat::LdmStm => block(sought.form, first, two),
-        ThumbFormat::BranchConditional => offset(sought.pc, one) % 256,
-        ThumbFormat::Swi => hexadecimal(one) % 256,
-        ThumbFormat::Branch => offset(sought.pc, one) % 2048,
-        ThumbFormat::BranchLongWithLink => call(b, one),
+    match kind {
+        ThumbFormat::MoveShiftedReg => shifted(sought),
+        ThumbFormat::AddSub => add_sub(sought),
+        ThumbFormat::DataProcessImm => u32::from(with_byte(sought, hexadecimal(sought.two))),
+        ThumbFormat::AluOps => u32::from(low(sought)),
+        ThumbFormat::HiRegOpOrBranchExchange => u32::from(high(bits, sought)),
+        ThumbFormat::LdrPc | ThumbFormat::LdrStrSp => u32::from(wide(sought)),
+        ThumbFormat::LdrStrRegOffset | ThumbFormat::LdrStrSHB => three_low(sought),
+        ThumbFormat::LdrStrImmOffset => transfer(bits, sought),
+        ThumbFormat::LdrStrHalfWord => with_number(sought, hexadecimal(sought.three) / 2),
+        ThumbFormat::LoadAddress => address(sought),
+        ThumbFormat::AddSp => sp(sought),
+        ThumbFormat::PushPop => stack(sought),
+        ThumbFormat::LdmStm => block(sought),
+        ThumbFormat::BranchConditional => offset(sought) % 256,
+        ThumbFormat::Swi => hexadecimal(sought.one) % 256,
+        ThumbFormat::Branch => offset(sought) % 2048,
+        ThumbFormat::BranchLongWithLink => call(bits, sought),
         ThumbFormat::Undefined => 0,
     }
 }
 
 // The candidate of a row.
+#[tactic(auto, unfolding(crate::specs::Candidate::candidate))]
 pub fn candidate_of(row: Row, sought: &Sought) -> u16
-    ensures { result ≡ candidate sought.now.form sought.now.pc sought.now.line.now row.kind row.bits }
+    ensures { result ≡ candidate sought.now.form sought.now.pc sought.now.line.now row.1 row.0 }
 {
-    let b = row.bits as u64;
-    ((b + operands_of(row.kind, b, sought)) % 0x1_0000) as u16
+    let Row(bits, kind) = row;
+    bits.wrapping_add((operands_of(kind, bits, sought) % 0x1_0000) as u16)
 }

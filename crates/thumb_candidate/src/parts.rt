@@ -7,7 +7,7 @@ use reading::parts::register;
 use text::read::next_word;
 
 // What is looked for: a line, in a form, at an address; the line from its words 1, 2 and 3 on, and the registers that these name, or 16.
-#[derive(Clone, Copy)]
+#[derive(Clone, Copy, Debug, PartialEq, Eq)]
 pub struct Sought<'a> {
     pub form: Form,
     pub pc: u32,

@@ -1,4 +1,4 @@
-// One function for each `fmt_` function of the Rust, in its order.
+// One function for each `fmt_` function of the Rust, in its order. Of form, address and word each takes what its line shows, so they are no struct.
 ghost use Rattle.std.specs.Prelude.{◌≡◌};
 ghost use Rattle.text.specs.Puts.{puts};
 ghost use Rattle.thumb_disass.specs.Line.{shift_places, fmt_thumb_move_shifted_reg, fmt_thumb_data_process_imm, fmt_thumb_alu_ops, fmt_thumb_high_reg_op_or_bx, fmt_thumb_ldr_pc, fmt_thumb_ldr_str_reg_offset, fmt_thumb_ldr_str_shb, fmt_thumb_ldr_str_imm_offset, fmt_thumb_ldr_str_halfword, fmt_thumb_ldr_str_sp, fmt_thumb_load_address, fmt_thumb_add_sub, fmt_thumb_add_sp, fmt_thumb_push_pop, fmt_thumb_ldm_stm, fmt_thumb_branch_with_cond, fmt_thumb_swi, fmt_thumb_branch, fmt_thumb_branch_long_with_link};
@@ -82,6 +82,7 @@ pub fn fmt_thumb_ldr_pc(out: &mut Writer<'_>, form: Form, pc: u32, raw: u32)
     put_address(out, form, effective);
 }
 
+// This function and the three below end alike, two by two; each stands for one of the Rust's.
 pub fn fmt_thumb_ldr_str_reg_offset(out: &mut Writer<'_>, raw: u32)
     ensures { out.new ≡ puts out.old (fmt_thumb_ldr_str_reg_offset raw) }
 {

@@ -20,7 +20,7 @@ use thumb::ThumbFormat;
 mod disass;
 mod operation;
 
-// The line of a word of a kind, at the start of a buffer.
+// The line of a word of a kind, from the writer's place on. A `match` on the kind, as in the Rust; ARM has other kinds, and one of its own.
 pub fn put_line(out: &mut Writer<'_>, form: Form, fmt: ThumbFormat, pc: u32, raw: u32)
     ensures { out.new ≡ puts out.old (line_of form fmt pc raw) }
 {

@@ -1,8 +1,8 @@
-pub mod Found
-pub mod Low
-pub mod Wide
 pub mod Branches
+pub mod Found
 pub mod High
-pub mod Stack
+pub mod Low
+pub mod Numbers
 pub mod Read
-pub mod Steps
+pub mod Stack
+pub mod Wide

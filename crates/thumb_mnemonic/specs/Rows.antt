@@ -1,10 +1,10 @@
 -- The mnemonics of Thumb lines. The reader's plan; nothing of the promise rests on it. Assumes nothing.
-use Rattle.std.specs.Prelude.{◌+◌, ℕ, ltb, drop, get_or, cond, List, [], ◌∷◌, map, Option, Some, None}
+use Rattle.std.specs.Prelude.{ℕ, eqb, get_or, cond, List, [], ◌∷◌}
 use Rattle.thumb.specs.declared.ThumbFormat.{ThumbFormat}
 use Rattle.thumb.specs.declared.ThumbFormat.TheVariants as H
-use Rattle.common.specs.Lists.{find}
 use Rattle.text.specs.Text.{text}
 use Rattle.text.specs.Word.{packed}
+use Rattle.thumb_mnemonic.specs.declared as code
 
 -- the mnemonics, each with the word that has it and no operands, in the order of the words, and that word's kind on the bench. A line of MoveShiftedReg
 -- and that of Undefined begin with no word: their first letters are capitals and `<`. No mnemonic has more than five rows
@@ -90,19 +90,17 @@ rows =
     row (text "bl") 0xf800 H.BranchLongWithLink ∷
     []
 
--- row i; the mnemonics as numbers; and the next row of the same mnemonic, or 70
+-- row i
 abbrev pub no_row : Row
 no_row = row [] 0 H.Undefined
 
 abbrev pub row_at : ℕ → Row
 row_at i = get_or rows i no_row
 
-abbrev pub codes : List ℕ
-codes = map (λ (r : Row). packed r.name) rows
+-- the rows of a list that have a mnemonic, which is given as a number, as the code has them
+abbrev pub rows_with : ℕ → List Row → List code.Row.Row
+rows_with n [] = []
+rows_with n (r ∷ rs) = cond (eqb (packed r.name) n) (record { 0 = r.bits; 1 = r.kind } ∷ rows_with n rs) (rows_with n rs)
 
-abbrev pub next_row : ℕ → ℕ
-next_row i = cond (ltb i 70) (i + 1 + find (get_or codes i 0) (drop (i + 1) codes)) 70
-
--- a row's place as the code has it: none past the last row
-abbrev pub found_row : ℕ → Option ℕ
-found_row i = cond (ltb i 70) (Some i) None
+unfoldable pub rows_of : ℕ → List code.Row.Row
+rows_of n = rows_with n rows

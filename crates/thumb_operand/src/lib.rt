@@ -1,4 +1,4 @@
-// Operands of Thumb lines that are more than a field.
+// Operands of Thumb lines that are more than a field. Of form and word each function takes what it shows, so they are no struct.
 #![tactic(auto, using(text::proofs::Puts::written), unfolding(crate::specs::Operand::high_dst, crate::specs::Operand::dst_reg, crate::specs::Operand::src_reg, crate::specs::Operand::imm_offset, crate::specs::Operand::sp_size, crate::specs::Operand::sp_bits, crate::specs::Operand::dst_and_src, crate::specs::Operand::high_operands, crate::specs::Operand::add_sub_operand, crate::specs::Operand::sheet_sp_offset, crate::specs::Operand::sp_offset, crate::specs::Operand::link_name, crate::specs::Operand::link_text, crate::specs::Operand::base_text))]
 
 ghost use Rattle.std.specs.Prelude.{◌≡◌};
@@ -83,6 +83,8 @@ pub fn put_add_sub_operand(out: &mut Writer<'_>, raw: u32)
     }
 }
 
+// The offset without its sign. It is not taken of `thumb::sword7`, which has the signed number: the sheet shows a minus by bit 7, also before 0, and the
+// bench 32 bits.
 fn sp_size(raw: u32) -> u32
     ensures { result ≡ sp_size raw }
 {

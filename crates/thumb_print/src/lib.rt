@@ -15,7 +15,7 @@ use thumb::{ThumbFormat, thumb_format};
 use thumb_disass::put_line;
 
 // The line of a word of a kind at an address, as `arm_print` has one of ARM's.
-#[derive(Clone, Copy)]
+#[derive(Clone, Copy, Debug, PartialEq, Eq)]
 struct ThumbLine {
     form: Form,
     fmt: ThumbFormat,

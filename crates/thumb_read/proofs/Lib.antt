@@ -1,2 +1,2 @@
+pub mod Lowest
 pub mod Printing
-pub mod Turns

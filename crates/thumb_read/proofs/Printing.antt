@@ -1,21 +1,14 @@
--- Lines have room in the scratch space; and no long line prints. Assumes nothing.
+-- No long line prints. Assumes nothing.
 use Prim.Native.Nat.{◌<◌, ◌^◌, ◌≤◌, ℕ}
 use lib.ListN.{length}
 use mathlib.Core.List.{List}
 use mathlib.Core.Path.{◌≡◌}
 use native.Mathlib.Omega.{arith}
-use Rattle.thumb.specs.Kinds.{thumb_format}
 use Rattle.arm7tdmi.specs.declared.Form.{Form}
 use Rattle.reading.proofs.Demand.{none_read, read_most}
-use Rattle.reading.specs.Shown.{Short}
-use Rattle.thumb_disass.proofs.Lengths.{line_within}
 use Rattle.thumb_print.proofs.Lengths.{thumb_within}
 use Rattle.thumb_print.specs.Print.{thumb_line}
 use Rattle.thumb_lowest.specs.Read.{read_thumb}
-
-pub thumb_short : (form : Form) (pc raw : ℕ) → Short (thumb_line form pc raw)
-unfolding thumb_line
-thumb_short form pc raw = (line_within form (thumb_format form raw) pc raw).most
 
 -- a line of more than 80 bytes
 pub long_none : (form : Form) (pc : ℕ) (l : List ℕ) → 80 < length l → read_thumb form pc l ≡ 2 ^ 16

@@ -8,10 +8,11 @@
 // `resume`, an offset and a title: shown by the steps from there on.
 #![tactic(auto, unfolding(text::specs::Puts::puts))]
 
-ghost use Rattle.std.specs.Prelude.{◌≡◌};
+ghost use Rattle.std.specs.Prelude.{◌≡◌, ◌≤◌};
 
 use image::Image;
 use input::read_full;
+use lines::LINE;
 use patch::patch;
 use refusal::Refusal;
 use std::io;
@@ -26,10 +27,62 @@ const SHOWN: usize = 4096;
 
 const TABLE: usize = 16384;
 
-// Writes the bytes that digits say to the start of a buffer, so often, and answers how many there are then.
+// A row of the table, by its first word.
+#[derive(Clone, Copy, Debug, PartialEq, Eq)]
+enum Row<'a> {
+    // the base and the place, how many bytes are lent, how often the bytes of the image are repeated, the digits of these, and those of the stretches
+    Listing {
+        base: u32,
+        place: usize,
+        room: usize,
+        times: usize,
+        image: &'a [u8],
+        stretches: &'a [u8],
+    },
+    // the offset and the line
+    Patch {
+        at: usize,
+        line: &'a [u8],
+    },
+    // the place
+    Resume {
+        place: usize,
+    },
+}
+
+impl<'a> Row<'a> {
+    fn read(row: &'a [u8]) -> Row<'a> {
+        let rest = next_word(row);
+        let place = read_number::<16>(first_word(rest)) as usize;
+        match first_word(row) {
+            b"patch" => Row::Patch {
+                at: place,
+                line: part(row, 15, row.len()),
+            },
+            b"resume" => Row::Resume { place },
+            base => Row::listing(base, place, next_word(rest)),
+        }
+    }
+
+    // A row of a listing, from its third word on.
+    fn listing(base: &[u8], place: usize, rest: &'a [u8]) -> Row<'a> {
+        let times = next_word(rest);
+        let image = next_word(times);
+        Row::Listing {
+            base: read_number::<16>(base),
+            place,
+            room: read_number::<10>(first_word(rest)) as usize,
+            times: read_number::<10>(first_word(times)) as usize,
+            image: first_word(image),
+            stretches: first_word(next_word(image)),
+        }
+    }
+}
+
+// Writes the bytes that digits say to the start of a buffer, so often, or nothing for `none`, and answers how many there are then.
 fn fill(buf: &mut [u8], digits: &[u8], times: usize) -> usize {
     let mut out = Writer { bytes: buf, at: 0 };
-    if digits.contains(&b'n') {
+    if digits == b"none".as_slice() {
         return 0;
     }
     for _ in 0..times {
@@ -40,15 +93,72 @@ fn fill(buf: &mut [u8], digits: &[u8], times: usize) -> usize {
     out.at
 }
 
-// A step with a part of a buffer lent, or all of it.
-fn step(image: Image, at: usize, line: &mut [u8], lent: usize) -> Result<Listed, Refusal> {
-    if lent <= line.len() {
-        return list_step(image, at, &mut line[..lent]);
-    }
-    list_step(image, at, line)
+// Bytes in a buffer of fixed size, with their number, like `row`'s `Begun`: no heap is used.
+#[derive(Drop)]
+struct Held<const N: usize> {
+    buf: [u8; N],
+    length: usize,
+    ghost fits: { length ≤ N },
 }
 
-// An offset and a byte length, with a space behind each.
+impl<const N: usize> Held<N> {
+    fn new() -> Self {
+        Held {
+            buf: [0; N],
+            length: 0,
+        }
+    }
+
+    fn fill(&mut self, digits: &[u8], times: usize) {
+        self.length = fill(&mut self.buf, digits, times).min(N);
+    }
+
+    fn bytes(&self) -> &[u8] {
+        &self.buf[..self.length]
+    }
+
+    // The buffer is taken as a slice first: the proof does not index an array whose length is a parameter.
+    fn bytes_mut(&mut self) -> &mut [u8] {
+        let n = self.length;
+        let buf = &mut self.buf;
+        let all = &mut buf[..];
+        &mut all[..n]
+    }
+}
+
+// The image of a listing, which the rows under it go on with.
+#[derive(Drop)]
+struct Case {
+    base: u32,
+    image: Held<IMAGE>,
+    stretches: Held<SHOWN>,
+}
+
+impl Case {
+    fn new() -> Self {
+        Case {
+            base: 0,
+            image: Held::new(),
+            stretches: Held::new(),
+        }
+    }
+
+    fn lent(&self) -> Image<'_> {
+        Image {
+            bytes: self.image.bytes(),
+            stretches: self.stretches.bytes(),
+            base: self.base,
+        }
+    }
+
+    fn patch(&mut self, at: usize, line: &[u8]) -> Result<(), Refusal> {
+        let stretches = self.stretches.bytes();
+        patch(self.image.bytes_mut(), stretches, self.base, at, line)
+    }
+}
+
+// An offset and a byte length, with a space behind each. A writer that is lent on keeps the buffer that it was made of: the check wants that said, here and of
+// each function below that is lent one.
 fn put_place(out: &mut Writer<'_>, offset: usize, bytes: usize)
     ensures { out.new.bytes.ghost_name ≡ out.old.bytes.ghost_name }
 {
@@ -58,7 +168,7 @@ fn put_place(out: &mut Writer<'_>, offset: usize, bytes: usize)
     out.put_byte(b' ');
 }
 
-// `!` and a refusal's number, as a line.
+// `!` and a refusal's number, as a line. (That of `row` is no line: its caller ends the row.)
 fn put_refusal(out: &mut Writer<'_>, refusal: Refusal)
     ensures { out.new.bytes.ghost_name ≡ out.old.bytes.ghost_name }
 {
@@ -68,7 +178,7 @@ fn put_refusal(out: &mut Writer<'_>, refusal: Refusal)
 }
 
 // What a step answers, as a line of text.
-fn put_step(out: &mut Writer<'_>, s: Listed, line: &[u8; 80])
+fn put_step(out: &mut Writer<'_>, s: Listed, line: &[u8; LINE])
     ensures { out.new.bytes.ghost_name ≡ out.old.bytes.ghost_name }
 {
     put_place(out, s.offset(), s.bytes());
@@ -87,16 +197,16 @@ fn put_step(out: &mut Writer<'_>, s: Listed, line: &[u8; 80])
 fn put_steps(out: &mut Writer<'_>, image: Image, place: usize, room: usize)
     ensures { out.new.bytes.ghost_name ≡ out.old.bytes.ghost_name }
 {
-    let mut line = [0u8; 80];
+    let mut line = [0u8; LINE];
     let mut lent = room;
     let mut at = place;
     for _ in 0..64 {
-        match step(image, at, &mut line, lent) {
+        match list_step(image, at, &mut line[..lent.min(LINE)]) {
             Ok(s) => {
                 put_step(out, s, &line);
                 at = at.wrapping_add(s.bytes());
                 match s {
-                    Listed::NoRoom(_) => lent = 80,
+                    Listed::NoRoom(_) => lent = LINE,
                     Listed::End(_) => break,
                     _ => {}
                 }
@@ -108,95 +218,6 @@ fn put_steps(out: &mut Writer<'_>, image: Image, place: usize, room: usize)
             }
         }
     }
-}
-
-// The image that the rows are about: its base, and how many bytes it and the list of its stretches have. They stand in buffers of fixed size, since no heap
-// is used, and the image is patched there; so their lengths stand beside them.
-#[derive(Clone, Copy)]
-struct Case {
-    base: u32,
-    image: usize,
-    stretches: usize,
-}
-
-// A row, as a line.
-fn put_row(out: &mut Writer<'_>, row: &[u8])
-    ensures { out.new.bytes.ghost_name ≡ out.old.bytes.ghost_name }
-{
-    out.put_text(row);
-    out.put_byte(b'\n');
-}
-
-// A listing: its image is filled in, and its steps are shown.
-fn show_listing(
-    rt: &impl Print,
-    row: &[u8],
-    image: &mut [u8; IMAGE],
-    stretches: &mut [u8; SHOWN],
-    out: &mut [u8; SHOWN],
-) -> io::Result<Case> {
-    let base = read_number::<16>(first_word(row));
-    let row2 = next_word(row);
-    let place = read_number::<16>(first_word(row2)) as usize;
-    let row3 = next_word(row2);
-    let room = read_number::<10>(first_word(row3)) as usize;
-    let row4 = next_word(row3);
-    let times = read_number::<10>(first_word(row4)) as usize;
-    let row5 = next_word(row4);
-    let n = fill(image, first_word(row5), times);
-    let m = fill(stretches, first_word(next_word(row5)), 1);
-    let lent = Image {
-        bytes: part(image, 0, n),
-        stretches: part(stretches, 0, m),
-        base,
-    };
-    let mut shown = Writer { bytes: out, at: 0 };
-    put_row(&mut shown, row);
-    put_steps(&mut shown, lent, place, room);
-    let end = shown.at;
-    rt.write_all(part(out, 0, end))?;
-    Ok(Case {
-        base,
-        image: n,
-        stretches: m,
-    })
-}
-
-// The listing, resumed.
-fn show_resumed<'a>(
-    rt: &impl Print,
-    row: &[u8],
-    case: Case,
-    image: &'a [u8; IMAGE],
-    stretches: &'a [u8; SHOWN],
-    out: &mut [u8; SHOWN],
-) -> io::Result<()> {
-    let lent = Image {
-        bytes: part(image, 0, case.image),
-        stretches: part(stretches, 0, case.stretches),
-        base: case.base,
-    };
-    let place = read_number::<16>(first_word(next_word(row))) as usize;
-    let mut shown = Writer { bytes: out, at: 0 };
-    put_row(&mut shown, row);
-    put_steps(&mut shown, lent, place, 80);
-    let end = shown.at;
-    rt.write_all(part(out, 0, end))
-}
-
-// A patch of the first n bytes of a buffer, or of all.
-fn patch_part(
-    buf: &mut [u8],
-    n: usize,
-    stretches: &[u8],
-    base: u32,
-    at: usize,
-    line: &[u8],
-) -> Result<(), Refusal> {
-    if n <= buf.len() {
-        return patch(&mut buf[..n], stretches, base, at, line);
-    }
-    patch(buf, stretches, base, at, line)
 }
 
 // Bytes, as two digits each, or none.
@@ -211,77 +232,66 @@ fn put_bytes(out: &mut Writer<'_>, bytes: &[u8])
     }
 }
 
-// The image, patched.
-fn show_patch(
-    rt: &impl Print,
-    row: &[u8],
-    case: Case,
-    image: &mut [u8; IMAGE],
-    stretches: &[u8; SHOWN],
-    out: &mut [u8; SHOWN],
-) -> io::Result<()> {
-    let patched = patch_part(
-        image,
-        case.image,
-        part(stretches, 0, case.stretches),
-        case.base,
-        read_number::<16>(first_word(next_word(row))) as usize,
-        part(row, 15, row.len()),
-    );
-    let number = match patched {
-        Ok(()) => 0,
-        Err(refusal) => u32::from(refusal),
-    };
-    let mut shown = Writer { bytes: out, at: 0 };
-    put_row(&mut shown, row);
-    shown.put_dec(number);
-    shown.put_byte(b' ');
-    put_bytes(&mut shown, part(image, 0, case.image));
-    shown.put_byte(b'\n');
-    let end = shown.at;
-    rt.write_all(part(out, 0, end))
+// A patch's number, and the image then, as a line.
+fn put_patch(out: &mut Writer<'_>, patched: Result<(), Refusal>, image: &[u8])
+    ensures { out.new.bytes.ghost_name ≡ out.old.bytes.ghost_name }
+{
+    out.put_dec(patched.err().map_or(0, u32::from));
+    out.put_byte(b' ');
+    put_bytes(out, image);
+    out.put_byte(b'\n');
+}
+
+// A row, and what it gives under it.
+fn put_row(out: &mut Writer<'_>, row: &[u8], case: &mut Case)
+    ensures { out.new.bytes.ghost_name ≡ out.old.bytes.ghost_name }
+{
+    out.put_text(row);
+    out.put_byte(b'\n');
+    match Row::read(row) {
+        Row::Listing {
+            base,
+            place,
+            room,
+            times,
+            image,
+            stretches,
+        } => {
+            case.base = base;
+            case.image.fill(image, times);
+            case.stretches.fill(stretches, 1);
+            put_steps(out, case.lent(), place, room);
+        }
+        Row::Patch { at, line } => {
+            let patched = case.patch(at, line);
+            put_patch(out, patched, case.image.bytes());
+        }
+        Row::Resume { place } => put_steps(out, case.lent(), place, LINE),
+    }
 }
 
 // All rows.
-fn show_all(
-    rt: &impl Print,
-    table: &[u8],
-    image: &mut [u8; IMAGE],
-    stretches: &mut [u8; SHOWN],
-    out: &mut [u8; SHOWN],
-) -> io::Result<()> {
-    let mut case = Case {
-        base: 0,
-        image: 0,
-        stretches: 0,
-    };
+fn show_all(rt: &impl Print, table: &[u8]) -> io::Result<()> {
     if table.is_empty() {
         return Ok(());
     }
+    let mut case = Case::new();
+    let mut shown = [0u8; SHOWN];
     let rows = table.strip_suffix(b"\n").unwrap_or(table);
     for row in rows.split(|byte| *byte == b'\n') {
-        if first_word(row).contains(&b'p') {
-            show_patch(rt, row, case, image, stretches, out)?;
-        } else if first_word(row).contains(&b'r') {
-            show_resumed(rt, row, case, image, stretches, out)?;
-        } else {
-            case = show_listing(rt, row, image, stretches, out)?;
-        }
+        let mut out = Writer {
+            bytes: &mut shown,
+            at: 0,
+        };
+        put_row(&mut out, row, &mut case);
+        let end = out.at;
+        rt.write_all(part(&shown, 0, end))?;
     }
     Ok(())
 }
 
 fn main(rt: HostRuntime) -> io::Result<()> {
     let mut table = [0u8; TABLE];
-    let mut image = [0u8; IMAGE];
-    let mut stretches = [0u8; SHOWN];
-    let mut out = [0u8; SHOWN];
     let size = read_full(&mut rt.stdin(), &mut table)?;
-    show_all(
-        &rt,
-        part(&table, 0, size),
-        &mut image,
-        &mut stretches,
-        &mut out,
-    )
+    show_all(&rt, part(&table, 0, size))
 }

@@ -213,7 +213,7 @@ pub fn table(program: &str) -> io::Result<()> {
                 steps.len()
             );
         };
-        row("step_on", by_program(program, &image, &list, &steps)?);
+        row("Listing::step", by_program(program, &image, &list, &steps)?);
         row("silk_list_step", by_library(&image, &list, &steps));
     }
     Ok(())

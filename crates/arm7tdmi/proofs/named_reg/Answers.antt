@@ -1,5 +1,5 @@
 -- `arm7tdmi::named_reg` meets its contract: each arm is computed; the last says that the number is that of no name. Assumes nothing.
-use Rattle.std.proofs.Common.{◌≡◌, ◌+◌, ◌*◌, ◌/◌, ◌^◌, arith}
+use Rattle.std.proofs.Common.{◌≡◌, ◌+◌, ◌*◌, ◌/◌, ◌^◌, arith, rules}
 use Rattle.arm7tdmi.proofs.Names.{no_name}
 use Rattle.arm7tdmi.specs.Names.{reg_names}
 use Rattle.common.specs.Lists.{first}
@@ -15,7 +15,7 @@ returns-then-n-eq114 c =
 
 pub returns-in_default : goal.returns-in_default
 unfolding reg_names packed
-returns-in_default c = (no_name c.args.n c.if-n-eq114.false c.in_default.in_default-own.rest, omega arith)
+returns-in_default c = (no_name c.args.n c.if-n-eq114.false (search rules), omega arith)
 
 pub returns-in-28774 : goal.returns-in-28774
 unfolding reg_names packed first

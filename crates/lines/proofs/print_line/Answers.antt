@@ -12,13 +12,13 @@ in_scratch bs {l} {r} short w =
     let k = kept w in
     (rw (e.1, e.0) (take_at bs (drop (length bs) (replicate 80 0)) (length bs) refl), omega (e.1, short, k, arith))
 
-pub returns-then-buf-ge80 : goal.returns-then-buf-ge80
+pub returns-then-buf-ge-LINE : goal.returns-then-buf-ge-LINE
 unfolding printed
-returns-then-buf-ge80 g c =
+returns-then-buf-ge-LINE g c =
     let a = c.args in
     let bs = g.L.Line.shown a.l.now in
     let short = g.met.L.Line.short a.l.now in
-    let room : length bs ≤ length a.buf.now = omega (short, c.if-buf-ge80.true, arith) in
+    let room : length bs ≤ length a.buf.now = omega (short, c.if-buf-ge-LINE.true, arith) in
     let e = lies c.put_at_start.ensures room in
     rw (le-ltb (length a.buf.now) (length bs) room, e.0, ← e.1)
 

@@ -1,11 +1,10 @@
 -- `lines::put_listed` meets its contract. Assumes nothing.
-use Rattle.std.proofs.Common.{◌≡◌, ◌∙◌, ◌++◌, [], ℕ, List, ap, arith, sym, ne_eqb, refl, rules}
+use Rattle.std.proofs.Common.{◌∙◌, [], ℕ, List, sym, ne_eqb}
 use Rattle.arm7tdmi.specs.Names.{reg_string}
 use Rattle.lines.proofs.Positions.{first_name, next_name}
 use Rattle.lines.specs.Pieces.{listed, registers}
 use Rattle.lines.specs.Position.{BeforeName, names}
 use Rattle.text.proofs.Puts.{puts_append, puts_nil, wrote_of}
-use Rattle.text.specs.Puts.{puts}
 use Rattle.text.specs.Wrote.{Behind}
 use Rattle.lines.proofs.put_listed.Goals as goal
 use Rattle.lines.proofs.put_listed.Goals.{then-bit_range-ne0, else-bit_range-ne0}

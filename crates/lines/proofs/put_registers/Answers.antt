@@ -1,12 +1,11 @@
 -- `lines::put_registers` meets its contract. Assumes nothing.
-use Rattle.std.proofs.Common.{◌≡◌, ◌∙◌, ◌+◌, ◌<◌, ◌++◌, arith, sym, rules}
+use Rattle.std.proofs.Common.{◌≡◌, ◌+◌, ◌<◌, arith, sym, rules}
 use Rattle.std.proofs.lemmas.Nat.Bits.{bit_at-trailing_zeros}
 use Rattle.std.specs.Int.{trailing_zeros, w32}
 use Rattle.lines.proofs.Registers.{clear_below, registers_left, registers_next, registers_pass}
 use Rattle.lines.specs.Pieces.{registers, set_bits}
 use Rattle.text.proofs.Puts.{puts_append, puts_nil, wrote_of}
 use Rattle.text.proofs.Wrote.{behind}
-use Rattle.text.specs.Puts.{puts}
 use Rattle.text.specs.Wrote.{Behind}
 use Rattle.lines.proofs.put_registers.Goals as goal
 

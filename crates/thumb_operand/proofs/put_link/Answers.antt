@@ -6,7 +6,6 @@ use Rattle.lines.specs.Position.{BeforeName, names}
 use Rattle.text.proofs.Puts.{wrote_of}
 use Rattle.text.specs.Wrote.{Behind}
 use Rattle.thumb_operand.specs.Operand.{link_name}
-use Rattle.thumb_operand.proofs.put_link.Goals as goal
 use Rattle.thumb_operand.proofs.put_link.Goals.{After-put_link_name, then-register_list-ne0, else-register_list-ne0}
 
 -- before the name the position stands directly behind the last byte written, if the place that was given stands directly behind the registers: a name alone

@@ -21,7 +21,7 @@ returns-then-byte-lt256 c =
     let t : ltb (turned_back v r) 256 ≡ true = rw (← c.rotate_right-byte.ensures) (lt-ltb _ _ c.if-byte-lt256.true) in
     let m = lowest_at_most (λ r. ltb (turned_back v r) 256) 16 r t in
     let e : lowest (λ r. ltb (turned_back v r) 256) 16 ≡ r = omega arith in
-    (rw (e, lt-ltb r 16 (omega arith), c.rotate_right-byte.ensures), omega arith)
+    (rw (c.from.ensures, e, lt-ltb r 16 (omega arith), c.rotate_right-byte.ensures), omega arith)
 
 pub loop-r-preserved : goal.loop-r-preserved
 unfolding rotation_of

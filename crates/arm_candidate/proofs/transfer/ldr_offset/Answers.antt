@@ -1,15 +1,10 @@
 -- `arm_candidate::transfer::ldr_offset` meets its contract. Assumes nothing.
-use Rattle.text.proofs.Places.{has_is}
 use Rattle.arm_candidate.specs.CandidateTransfer.{ldr_offset}
+use Rattle.arm_candidate.proofs.Opcodes.{flag_number}
 use borrow.Author.Rules.{rules}
 use Rattle.arm_candidate.proofs.transfer.ldr_offset.Goals as goal
 
 pub returns-then-is_number : goal.returns-then-is_number
 unfolding ldr_offset
 returns-then-is_number c =
-    (rw (← c.requires, ← c.first_word-w.ensures, ← c.is_number.ensures, c.if-is_number.true, c.size_of.ensures.0, c.as_flag.ensures.0, c.is_added-up.ensures, c.read_number-v.ensures, c.contains-minus.ensures.value, has_is 45 c.args.line.now), search rules)
-
-pub returns : goal.returns
-unfolding ldr_offset
-returns c =
-    (rw (← c.requires, ← c.first_word-w.ensures, ← c.is_number.ensures, c.if-is_number.false, c.shifted.ensures.0, c.as_flag-2.ensures.0, c.contains-minus.ensures.value, has_is 45 c.args.line.now), search rules)
+    (rw (← c.three-three.ensures, ← c.first_word-w.ensures, ← c.is_number.ensures, c.if-is_number.true, c.from-then-is_number.ensures, c.size_of.ensures, c.from.ensures, c.is_added-up.ensures, flag_number, c.read_number-v.ensures, c.has-minus.ensures), search rules)

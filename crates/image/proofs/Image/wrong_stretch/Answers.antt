@@ -1,26 +1,14 @@
 -- `image::Image::wrong_stretch` meets its contract. Assumes nothing.
-use Rattle.std.proofs.Common.{◌≡◌, length, true, false, ◌∙◌, sym, arith}
-use Rattle.image.proofs.Valid.{wrong_here, wrong_on, wrong_out}
-use Rattle.image.specs.Stretches.{pair_at}
-use Rattle.image.specs.Refusal.{wrong_pair}
+use Rattle.std.proofs.Common.{◌≡◌, Bool, true, false, not, rules, refl, length, sym, ◌∙◌}
+use Rattle.image.proofs.Valid.{folded}
 use Rattle.image.proofs.Image.wrong_stretch.Goals as goal
 
-pub returns-then-is_wrong : goal.returns-then-is_wrong
-returns-then-is_wrong c =
-    let a = c.args in
-    let l = c.loop-i in
-    let w : wrong_pair (length a.self.bytes.now) l.before (pair_at a.self.stretches.now l.i) ≡ true = rw c.stretch-stretch.ensures at (sym c.is_wrong.ensures ∙ c.if-is_wrong.true) in
-    sym (l.invariant ∙ wrong_here a.self.stretches.now (length a.self.bytes.now) l.before l.i (omega arith) w)
-
-pub loop-i-preserved : goal.loop-i-preserved
-loop-i-preserved c =
-    let a = c.args in
-    let l = c.loop-i in
-    let w : wrong_pair (length a.self.bytes.now) l.before (pair_at a.self.stretches.now l.i) ≡ false = rw c.stretch-stretch.ensures at (sym c.is_wrong.ensures ∙ c.if-is_wrong.false) in
-    rw (c.end-before.ensures, c.stretch-stretch.ensures) (l.invariant ∙ wrong_on a.self.stretches.now (length a.self.bytes.now) l.before l.i (omega arith) w)
+turned : (a b : Bool) → b ≡ not a → not b ≡ a
+turned true b e = rw e
+turned false b e = rw e
 
 pub returns : goal.returns
 returns c =
-    let a = c.args in
-    let l = c.loop-i in
-    sym (l.invariant ∙ wrong_out a.self.stretches.now (length a.self.bytes.now) l.before l.i (omega arith))
+    let a = c.args.self in
+    sym (turned c.is_none.result _ c.is_none.ensures)
+    ∙ folded a.stretches.now (length a.bytes.now) _ _ _ (λ before i v q k. (search rules, search rules)) _ _ c.try_fold.result refl c.count.ensures c.try_fold.ensures.ran

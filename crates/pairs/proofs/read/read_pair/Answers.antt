@@ -8,14 +8,14 @@ returns-then-line-ne13 c =
     let a = c.args in
     sym (wrong_length a.address a.line.now c.if-line-ne13.true)
 
-pub returns-then-spells : goal.returns-then-spells
-returns-then-spells c =
+pub returns-then-prints : goal.returns-then-prints
+returns-then-prints c =
     let a = c.args in
-    read_some a.address a.line.now c.read_number.result c.distance-d.result c.first_for-first.result c.second_for-second.result
-    c.read_number.ensures c.distance-d.ensures c.first_for-first.ensures c.second_for-second.ensures (sym c.spells.ensures ∙ c.if-spells.true)
+    read_some a.address a.line.now c.read_number.result c.distance-d.result c.half-first.result c.half-second.result
+    c.read_number.ensures c.distance-d.ensures c.half-first.ensures c.half-second.ensures (sym c.prints.ensures ∙ c.if-prints.true)
 
 pub returns : goal.returns
 returns c =
     let a = c.args in
-    read_none a.address a.line.now c.read_number.result c.distance-d.result c.first_for-first.result c.second_for-second.result
-    c.read_number.ensures c.distance-d.ensures c.first_for-first.ensures c.second_for-second.ensures (sym c.spells.ensures ∙ c.if-spells.false)
+    read_none a.address a.line.now c.read_number.result c.distance-d.result c.half-first.result c.half-second.result
+    c.read_number.ensures c.distance-d.ensures c.half-first.ensures c.half-second.ensures (sym c.prints.ensures ∙ c.if-prints.false)

@@ -3,7 +3,6 @@ use Rattle.lines.proofs.Positions.{before_each}
 use Rattle.lines.specs.Pieces.{registers}
 use Rattle.lines.specs.Position.{BeforeEach, names}
 use Rattle.text.proofs.Puts.{wrote_of}
-use Rattle.thumb_disass.proofs.disass.fmt_thumb_ldm_stm.Goals as goal
 use Rattle.thumb_disass.proofs.disass.fmt_thumb_ldm_stm.Lts as states
 use Rattle.thumb_disass.proofs.disass.fmt_thumb_ldm_stm.Reads.{Post, Pre}
 use Rattle.thumb_disass.proofs.disass.fmt_thumb_ldm_stm.Tie.{the-claims}

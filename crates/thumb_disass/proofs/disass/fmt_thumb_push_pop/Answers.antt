@@ -1,16 +1,16 @@
 -- `thumb_disass::disass::fmt_thumb_push_pop` meets its contract: the list is the registers and behind them lr or pc. Assumes nothing.
-use Rattle.std.proofs.Common.{◌≡◌, cond, [], ◌++◌, ◌∷◌, arith, sym}
+use Rattle.std.proofs.Common.{◌≡◌, cond, [], ◌++◌, ◌∷◌}
 use Rattle.common.specs.Bits.{bit}
 use Rattle.lines.proofs.Positions.{before_each}
 use Rattle.lines.specs.Pieces.{registers}
 use Rattle.lines.specs.Position.{BeforeEach, names}
-use Rattle.text.proofs.Puts.{puts_append, wrote_of, written}
+use Rattle.text.proofs.Puts.{puts_append, wrote_of}
 use Rattle.text.proofs.Wrote.{behind}
 use Rattle.text.specs.Puts.{puts}
 use Rattle.text.specs.Wrote.{Behind}
 use Rattle.thumb_disass.specs.Line.{fmt_thumb_push_pop}
 use Rattle.thumb_operand.proofs.PushPop.{push_pop_list_lem}
-use Rattle.thumb_operand.specs.Operand.{link_name, link_text, push_pop_list}
+use Rattle.thumb_operand.specs.Operand.{link_name, push_pop_list}
 use Rattle.thumb_disass.proofs.disass.fmt_thumb_push_pop.Goals as goal
 use Rattle.thumb_disass.proofs.disass.fmt_thumb_push_pop.Lts as states
 use Rattle.thumb_disass.proofs.disass.fmt_thumb_push_pop.Reads.{Post, Pre}

@@ -1,12 +1,9 @@
--- `text::put::Writer::put_digits` meets its contract. Invariant: the digits are those that are left, and then those that the scratch holds from i to k. Assumes nothing.
-use Rattle.std.proofs.Common.{◌≡◌, ◌++◌, ◌-◌, ◌<◌, ◌^◌, ◌≤◌, drop, length, take}
+-- `text::put::Writer::put_digits` meets its contract. Invariant: the digits are those that are left, and then those that the scratch holds from `first` to k. Assumes nothing.
+use Rattle.std.proofs.Common.{◌≡◌, ◌++◌, ◌-◌, ◌≤◌, drop, length, take}
 use Rattle.text.specs.Digits.{digits}
 use Rattle.text.proofs.put.Writer.put_digits.Given as goal
 
 abbrev pub invariant-loop-i : goal.invariant-loop-i
 invariant-loop-i g l =
-    (l.i ≤ l.k) × (length l.scratch ≡ 10) × (l.wide < 2 ^ 32) × (l.rest < 2 ^ 32) × (l.self ≡ l.initial.self)
-    × (digits g.row.BASE l.k l.w l.n ≡ digits g.row.BASE l.i l.wide l.rest ++ take (l.k - l.i) (drop l.i l.scratch))
-
-abbrev pub decreases-loop-i : goal.decreases-loop-i
-decreases-loop-i g l = l.i
+    (l.first ≡ l.i) × (l.i ≤ l.k) × (length l.scratch ≡ 10) × (l.self ≡ l.initial.self)
+    × (digits g.row.BASE l.k l.w l.n ≡ digits g.row.BASE l.first l.wide l.rest ++ take (l.k - l.first) (drop l.first l.scratch))
