@@ -89,6 +89,8 @@ fn arm_rows(form: Form) -> [Row<ArmFormat>; 15]
 }
 
 // The kind of a word. Rows, kinds and the words are other types in each set, so `thumb_format` is not this function; what they share is `first_match`.
+// Not inlined: within the print it takes longer.
+#[inline(never)]
 pub fn arm_format(form: Form, raw: u32) -> ArmFormat
     ensures { result ≡ arm_format form raw }
 {

@@ -17,6 +17,8 @@ use lines::{
 };
 use text::put::Writer;
 
+// Inlined, as are the shifts of an operand: a print is quicker so.
+#[inline(always)]
 fn put_opcode(out: &mut Writer<'_>, op: AluOpCode)
     ensures { out.new ≡ puts out.old (op_text op) }
 {

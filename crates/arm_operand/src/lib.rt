@@ -14,6 +14,8 @@ use arm7tdmi::{Form, put_reg};
 use lines::{put_address, put_either, put_mark, put_reg_at};
 use text::put::Writer;
 
+// Inlined, as is a shifted register: a print is quicker so.
+#[inline(always)]
 fn put_shift(out: &mut Writer<'_>, op: BarrelShiftOpCode)
     ensures { out.new ≡ puts out.old (shift_text op) }
 {
@@ -77,6 +79,7 @@ fn put_shift_by(out: &mut Writer<'_>, form: Form, op: BarrelShiftOpCode, by: Shi
 }
 
 // A register and how it is shifted.
+#[inline(always)]
 fn put_shifted_register(out: &mut Writer<'_>, form: Form, s: ShiftedRegister)
     ensures { out.new ≡ puts out.old (shifted_register form s) }
 {
