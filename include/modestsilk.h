@@ -3,13 +3,14 @@
  * Any word, address and buffer gets an answer; nothing has to be checked first.
  * A form of 0 is bench, every other number sheet. A print answers 0, or the
  * number of a refusal: 1 (condition 1111 where the condition is printed),
- * 2 (halfword transfer of type 00), 3 (the buffer is shorter than the line), and
- * of a call pair 5 (the halfwords are not a first half and then a second), which
- * comes before 3. The length goes through the pointer and is 0 on a refusal; the
- * bytes behind the line, and on a refusal all bytes, keep their values. A line
- * has from 5 to 80 bytes and no end mark, that of a pair 13. A read takes any
- * bytes and answers 0 with the lowest word that prints just that line at that
- * address, or 4 with word 0 where no word does.
+ * 2 (halfword transfer of type 00), 9 (on the sheet: a test, tst, teq, cmp or cmn,
+ * whose S, bit 20, is clear), 3 (the buffer is shorter than the line), in this
+ * order, and of a call pair 5 (the halfwords are not a first half and then a
+ * second), which comes before 3. The length goes through the pointer and is 0 on a
+ * refusal; the bytes behind the line, and on a refusal all bytes, keep their
+ * values. A line has from 5 to 80 bytes and no end mark, that of a pair 13. A read
+ * takes any bytes and answers 0 with the lowest word that prints just that line at
+ * that address, or 4 with word 0 where no word does.
  *
  * A Thumb call is two halfwords, a first half (top bits 11110) and then a second
  * (11111). silk_print_pair prints the two as one sheet line with the call's
@@ -27,7 +28,7 @@
  * one stretch) and the line's length go through the pointers. A listing begins at
  * place 0, and its next place is offset + bytes. The answer is
  *   0   the line; with bytes 0 the end mark, its offset the place,
- *   1, 2   that word is refused: bytes 4, length 0, and the listing goes on,
+ *   1, 2, 9   that word is refused: bytes 4, length 0, and the listing goes on,
  *   3   the buffer is shorter than the line: bytes 0, length 0, offset the place,
  *   6   the image has more than 65536 bytes, or not a multiple of 4,
  *   7   the stretches are not whole pairs, or a pair has length 0, an offset or a
@@ -47,9 +48,9 @@
  *   8   the offset is no place for a word: as above, or it is the image's end,
  *   4   no word of the set at that place prints the line there,
  * in this order, and then the image keeps its bytes. A call pair takes two
- * patches, as its line is no halfword's; in ARM such a line is that of bl. A word
- * that is not the lowest of its line cannot be patched in: F800, which prints as
- * F000 does.
+ * patches, as its line is no halfword's; in ARM such a line is that of bl. The line
+ * of a test stores the word with S. A word that is not the lowest of its line cannot
+ * be patched in: F800, which prints as F000 does.
  *
  * What the pointers must be: line points to capacity bytes (a print) or length
  * bytes (a read or a patch), halfwords to count halfwords, image and stretches to

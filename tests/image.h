@@ -248,11 +248,11 @@ static uint32_t random_half(void)
 }
 
 /* Condition 1111, halfword type 00 under any condition and under 1110, the longest
- * line, a call pair, two halfwords, and any word. */
+ * line, a call pair, a test without S, two halfwords, and any word. */
 static uint32_t random_word(void)
 {
     uint32_t word = random_number();
-    switch (below(8)) {
+    switch (below(9)) {
     case 0:
         return word | 0xf0000000;
     case 1:
@@ -264,7 +264,9 @@ static uint32_t random_word(void)
     case 4:
         return (word & 0x07ff07ff) | 0xf800f000;
     case 5:
+        return (word & 0xf26fffff) | 0x01000000;
     case 6:
+    case 7:
         return random_half() << 16 | random_half();
     default:
         return word;

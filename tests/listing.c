@@ -38,6 +38,10 @@ static const struct row {
     { { 0, 0xf0000000 }, 2, { 0 }, 0, 0, 4, 0, 1, 4, 4, "" },
     { { 0, 0xe1800090 }, 2, { 0 }, 0, 0, 4, 0, 2, 4, 4, "" },
     { { 0, 0xf1800090 }, 2, { 0 }, 0, 0, 4, 80, 1, 4, 4, "" },
+    { { 0, 0xe1000000 }, 2, { 0 }, 0, 0, 4, 0, 9, 4, 4, "" },
+    { { 0, 0xe3600000 }, 2, { 0 }, 0, 0, 4, 80, 9, 4, 4, "" },
+    { { 0, 0xf1000000 }, 2, { 0 }, 0, 0, 4, 80, 1, 4, 4, "" },
+    { { 0, 0xe1100000 }, 2, { 0 }, 0, 0, 4, 80, 0, 4, 4, "tst\tr0, r0" },
     { { 0, 0xe0821003 }, 2, { 0 }, 0, 0, 4, 13, 3, 4, 0, "" },
     /* Halfwords and a call pair in Thumb; its second half alone. */
     { { 0xc8084480 }, 1, { 0, 4 }, 1, 0, 0, 80, 0, 0, 2, "add\tr8, r0" },
@@ -104,7 +108,7 @@ static void random_images(void)
         listing("80 bytes", LONGEST);
         listing("128 bytes", WIDEST);
     }
-    check(numbers[1] > 10000 && numbers[2] > 10000, "too few refusals", 0, 0);
+    check(numbers[1] > 10000 && numbers[2] > 10000 && numbers[9] > 10000, "too few refusals", 0, 0);
     check(joined > 10000 && parted > 10000, "too few call pairs", 0, 0);
 }
 

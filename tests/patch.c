@@ -226,6 +226,9 @@ static const struct row {
     { "ffffffff", LIST(0, 4), 0, 2, "add\tr8, r0", 0, "ffff8044" },
     /* The lowest word, also over another word of the line. */
     { "00101fe1", NO_LIST, 0, 0, "tst\tpc, r0", 0, "00001fe1" },
+    { "000000e1 000000e1", NO_LIST, 0, 0, "tst\tr0, r0", 0, "000010e1 000000e1" },
+    { "ffffffff", NO_LIST, 0, 0, "teq\tpc, r0", 0, "00003fe1" },
+    { "ffffffff", NO_LIST, 0, 0, "cmn\tr0, #0\t; 0x0", 0, "000070e3" },
     { "ffffffff", NO_LIST, 0, 0, "mov\tr0, #256\t; 0x100", 0, "010ca0e3" },
     { "ffffffff", NO_LIST, 0, 0, "<Undefined>", 0, "10000006" },
     { "ffffffff", LIST(0, 4), 0, 2, "<Undefined>", 0, "ffff00b1" },
@@ -272,6 +275,7 @@ static const struct row {
     { "00000000", NO_LIST, 0, 0, "", 4, NULL },
     { "00000000", NO_LIST, 0x100, 0, "b\t0x100", 4, NULL },
     { "00000000", NO_LIST, 0, 0, "mov\tr1, r2, lsr #0", 4, NULL },
+    { "000000e1", NO_LIST, 0, 0, "tst\tr0, r0, lsr #0", 4, NULL },
     { "00000000", LIST(0, 4), 0, 2, "add\tr8, r00", 4, NULL },
     { "00000000", LIST(0, 4), 0, 2, LONG_LINE, 4, NULL },
     { "00000000", LIST(0, 4), 0, 2, LONG_LINE " ", 4, NULL },

@@ -9,7 +9,7 @@
 
 #include "modestsilk.h"
 
-enum { PAGE = 4096, MIDDLE = 1024, GUARD = 0xa5 };
+enum { PAGE = 4096, MIDDLE = 1024, GUARD = 0xa5, LONGEST = 80 };
 
 /* Of a call pair a word holds both halves, the first above. It has one line, so its
  * answers are the same for all forms. */
@@ -78,6 +78,35 @@ static const struct row {
     { THUMB, 0x0808, 0, LINE("LSR\tr0, r1, #0"), LINE("LSR\tr0, r1, #32") },
     { THUMB, 0x1008, 0, LINE("ASR\tr0, r1, #0"), LINE("ASR\tr0, r1, #32") },
     { THUMB, 0x0848, 0, LINE("LSR\tr0, r1, #1"), LINE("LSR\tr0, r1, #1") },
+    /* Tests without S are refused with 9 on the sheet, but 1 comes first. */
+    { ARM, 0xe1000000, 0, LINE("tst\tr0, r0"), REFUSAL(9) },
+    { ARM, 0xe1200000, 0, LINE("teq\tr0, r0"), REFUSAL(9) },
+    { ARM, 0xe1400000, 0, LINE("cmp\tr0, r0"), REFUSAL(9) },
+    { ARM, 0xe1600000, 0, LINE("cmn\tr0, r0"), REFUSAL(9) },
+    { ARM, 0xe3000000, 0, LINE("tst\tr0, #0\t; 0x0"), REFUSAL(9) },
+    { ARM, 0xe3200000, 0, LINE("teq\tr0, #0\t; 0x0"), REFUSAL(9) },
+    { ARM, 0xe3400000, 0, LINE("cmp\tr0, #0\t; 0x0"), REFUSAL(9) },
+    { ARM, 0xe3600000, 0, LINE("cmn\tr0, #0\t; 0x0"), REFUSAL(9) },
+    { ARM, 0xe121f000, 0, LINE("teq\tr1, r0"), REFUSAL(9) },
+    { ARM, 0xe120f000, 0, LINE("teq\tr0, r0"), REFUSAL(9) },
+    { ARM, 0xe320f000, 0, LINE("teq\tr0, #0\t; 0x0"), REFUSAL(9) },
+    { ARM, 0x01600003, 0, LINE("cmneq\tr0, r3"), REFUSAL(9) },
+    { ARM, 0xf1000000, 0, REFUSAL(1), REFUSAL(1) },
+    /* With S they print. */
+    { ARM, 0xe1100000, 0, BOTH(LINE("tst\tr0, r0")) },
+    { ARM, 0xe1300000, 0, BOTH(LINE("teq\tr0, r0")) },
+    { ARM, 0xe1500000, 0, BOTH(LINE("cmp\tr0, r0")) },
+    { ARM, 0xe1700000, 0, BOTH(LINE("cmn\tr0, r0")) },
+    { ARM, 0xe11f0000, 0, BOTH(LINE("tst\tpc, r0")) },
+    { ARM, 0xe3100000, 0, BOTH(LINE("tst\tr0, #0\t; 0x0")) },
+    { ARM, 0xe3700000, 0, BOTH(LINE("cmn\tr0, #0\t; 0x0")) },
+    /* So do words of other kinds without that bit. */
+    { ARM, 0xe1000090, 0, BOTH(LINE("swp\tr0, r0, [r0]")) },
+    { ARM, 0xe10000b0, 0, BOTH(LINE("strh\tr0, [r0, -r0]")) },
+    { ARM, 0xe10f0000, 0, BOTH(LINE("mrs\tr0, CPSR")) },
+    { ARM, 0xe129f000, 0, BOTH(LINE("msr\tCPSR, r0")) },
+    { ARM, 0xe328f000, 0, BOTH(LINE("msr\tCPSR_f, #0\t; 0x0\t; N=false Z=false C=false V=false")) },
+    { ARM, 0xe12fff10, 0, BOTH(LINE("bx\tr0")) },
     /* Other numbers have as many as they need. */
     { ARM, 0xe5910004, 0x100, LINE("ldr\tr0, [r1, #4]\t; 0x4"), LINE("ldr\tr0, [r1, #4]\t; 0x4") },
     { ARM, 0xe3a0f004, 0x100, LINE("mov\tr0, #4\t; 0x4"), LINE("mov\tpc, #4\t; 0x4") },
@@ -129,6 +158,20 @@ static const struct reading {
 } readings[] = {
     { ARM, 0, "add\tr1, r2, r3", NONE, 0xe0821003 },
     { ARM, 0, "tst\tpc, r0", 0xe11f0000, 0xe11f0000 },
+    { ARM, 0, "teq\tpc, r0", 0xe12f0000, 0xe13f0000 },
+    { ARM, 0, "cmp\tpc, r0", 0xe15f0000, 0xe15f0000 },
+    { ARM, 0, "cmn\tpc, r0", 0xe16f0000, 0xe17f0000 },
+    { ARM, 0, "tst\tpc, r1", 0xe10f0001, 0xe11f0001 },
+    { ARM, 0, "tst\tr0, r0", 0xe1000000, 0xe1100000 },
+    { ARM, 0, "teq\tr0, r0", 0xe1200000, 0xe1300000 },
+    { ARM, 0, "cmp\tr0, r0", 0xe1400000, 0xe1500000 },
+    { ARM, 0, "cmn\tr0, r0", 0xe1600000, 0xe1700000 },
+    { ARM, 0, "tst\tr0, #0\t; 0x0", 0xe3000000, 0xe3100000 },
+    { ARM, 0, "teq\tr0, #0\t; 0x0", 0xe3200000, 0xe3300000 },
+    { ARM, 0, "cmp\tr0, #0\t; 0x0", 0xe3400000, 0xe3500000 },
+    { ARM, 0, "cmn\tr0, #0\t; 0x0", 0xe3600000, 0xe3700000 },
+    { ARM, 0, "tst\tr0, r0, lsr #0", 0xe1000020, NONE },
+    { ARM, 0, "tst\tr0, r0, lsr #32", NONE, 0xe1100020 },
     { ARM, 0, "mov\tr0, #256\t; 0x100", 0xe3a00c01, 0xe3a00c01 },
     { ARM, 0, "mov\tr0, #257\t; 0x101", NONE, NONE },
     { ARM, 0, "mov\tr0, #4\t; 0x4", 0xe3a00004, 0xe3a00004 },
@@ -341,6 +384,46 @@ static void reads(uint8_t *page)
     }
 }
 
+/* A word of the kind data processing with opcode 1000 to 1011. */
+static bool is_test(uint32_t word)
+{
+    uint32_t opcode = word >> 21 & 0xf;
+    return silk_kind_arm(SILK_SHEET, word) == SILK_ARM_DATA_PROCESSING && opcode >= 8 && opcode <= 11;
+}
+
+static bool has_s(uint32_t word)
+{
+    return (word >> 20 & 1) == 1;
+}
+
+/* 9 for just the tests without S, on the sheet, behind 1 and before 3; and the sheet
+ * line of a test reads as a word with S. */
+static void test_word(uint32_t word)
+{
+    uint8_t line[LONGEST];
+    size_t length;
+    uint32_t back = 0;
+    bool lacks = is_test(word) && !has_s(word) && word >> 28 != 0xf;
+    uint32_t bench = silk_print_arm(SILK_BENCH, word, 0, line, LONGEST, &length);
+    uint32_t no_room = silk_print_arm(SILK_SHEET, word, 0, line, 0, &length);
+    uint32_t sheet = silk_print_arm(SILK_SHEET, word, 0, line, LONGEST, &length);
+    check(bench != 9 && (no_room == 9) == lacks && (sheet == 9) == lacks, "9", word, SILK_SHEET, LONGEST);
+    if (sheet == 0 && is_test(word)) {
+        uint32_t number = silk_read_arm(SILK_SHEET, 0, line, length, &back);
+        check(number == 0 && has_s(back) && back <= word, "test read back", word, SILK_SHEET, length);
+    }
+}
+
+/* Words of all upper 12 bits, each with some lower ones. */
+static void tests(void)
+{
+    uint32_t low = 1;
+    for (uint32_t n = 0; n < 0x1000 * 64; n++) {
+        low = low * 1664525 + 1013904223;
+        test_word(n << 20 | low >> 12);
+    }
+}
+
 int main(void)
 {
     uint8_t *page = mmap(NULL, 2 * PAGE, PROT_NONE, MAP_PRIVATE | MAP_ANONYMOUS, -1, 0);
@@ -351,6 +434,7 @@ int main(void)
     lines(page);
     kind_numbers();
     reads(page);
+    tests();
     munmap(page, 2 * PAGE);
     printf("%u passed, %u failed\n", passed, failed);
     return failed == 0 ? EXIT_SUCCESS : EXIT_FAILURE;

@@ -1,5 +1,5 @@
 -- Data processing: the candidate of a line, the word that it names; on any other line some number. The reader's plan; nothing of the promise rests on it. Assumes nothing.
-use Rattle.std.specs.Prelude.{◌%◌, ◌*◌, ◌+◌, ◌/◌, ◌^◌, ℕ, eqb, Bool, ◌&&◌, ◌||◌, cond, false, not, List}
+use Rattle.std.specs.Prelude.{◌%◌, ◌*◌, ◌+◌, ◌/◌, ◌^◌, ℕ, eqb, Bool, ◌&&◌, ◌||◌, cond, false, not, true, List}
 use Rattle.arm7tdmi.specs.declared.Form.TheVariants.{Bench, Sheet}
 use Rattle.arm7tdmi.specs.declared.Form.{Form}
 use Rattle.arm_candidate.specs.CandidateOperand.{operand_of}
@@ -31,13 +31,18 @@ rd_in form op l = cond (shows_rd form op) (reg_in 1 l) 0
 abbrev pub operand_in : ℕ → List ℕ → ℕ
 operand_in op l = operand_of (cond (is_three op) (from_word 3 l) (from_word 2 l))
 
--- S of a test is clear, unless that word is mrs: Rn is pc, and bits 25, 21 and 11-0 are clear
+-- a test that is mrs, where its S is clear: Rn is pc, and bits 25, 21 and 11-0 are clear
 abbrev pub is_mrs : ℕ → ℕ → ℕ → Bool
 is_mrs op rn y = eqb (op % 2) 0 && (eqb rn 15 && eqb y 0)
 
+-- S of a test: on the bench it is clear, unless that word is mrs; on the sheet it is set (S11)
+abbrev pub test_s : Form → ℕ → ℕ → ℕ → Bool
+test_s Bench op rn y = is_mrs op rn y
+test_s Sheet op rn y = true
+
 -- from the condition, the bits of the head, their opcode, Rn, Rd and operand 2 with its bit 25
-unfoldable pub dp_from : ℕ → ℕ → ℕ → ℕ → ℕ → ℕ → ℕ
-dp_from c b op rn rd y = c * 2 ^ 28 + b + flag (is_test op && is_mrs op rn y) * 2 ^ 20 + rn * 2 ^ 16 + rd * 2 ^ 12 + y
+unfoldable pub dp_from : Form → ℕ → ℕ → ℕ → ℕ → ℕ → ℕ → ℕ
+dp_from form c b op rn rd y = c * 2 ^ 28 + b + flag (is_test op && test_s form op rn y) * 2 ^ 20 + rn * 2 ^ 16 + rd * 2 ^ 12 + y
 
 unfoldable pub dp_cand : Candidate
-dp_cand form pc b c l = dp_from c b (b / 2 ^ 21) (rn_in form (b / 2 ^ 21) l) (rd_in form (b / 2 ^ 21) l) (operand_in (b / 2 ^ 21) l)
+dp_cand form pc b c l = dp_from form c b (b / 2 ^ 21) (rn_in form (b / 2 ^ 21) l) (rd_in form (b / 2 ^ 21) l) (operand_in (b / 2 ^ 21) l)

@@ -1,7 +1,7 @@
 // Data processing.
 ghost use Rattle.std.specs.Prelude.{◌≡◌, ◌≤◌, ◌<◌, ◌^◌, ◌&&◌};
 ghost use Rattle.arm7tdmi.specs.Alu.{alu_number};
-ghost use Rattle.arm_candidate.specs.CandidateDataProcessing.{is_test, is_three, shows_rd, rn_in, rd_in, operand_in, is_mrs, dp_cand};
+ghost use Rattle.arm_candidate.specs.CandidateDataProcessing.{is_test, is_three, shows_rd, rn_in, rd_in, operand_in, is_mrs, test_s, dp_cand};
 ghost use Rattle.arm_candidate.specs.CandidateSaid.{of_said};
 
 use crate::operand::operand;
@@ -60,14 +60,24 @@ fn operand_in(op: AluOpCode, said: &Said) -> u64
     operand(said.two)
 }
 
-// Whether a test with S clear is mrs.
+// Whether a test is mrs, where its S is clear.
 fn is_mrs(op: AluOpCode, rn: u64, y: u64) -> bool
     ensures { result ≡ is_test (alu_number op) && is_mrs (alu_number op) rn y }
 {
     matches!(op, AluOpCode::TST | AluOpCode::CMP) && rn == 15 && y == 0
 }
 
-// Data processing. S of a test is clear, unless that is mrs.
+// Whether a test has S: on the bench one that is mrs without it, on the sheet each (S11).
+fn test_s(form: Form, op: AluOpCode, rn: u64, y: u64) -> bool
+    ensures { result ≡ is_test (alu_number op) && test_s form (alu_number op) rn y }
+{
+    match form {
+        Form::Bench => is_mrs(op, rn, y),
+        Form::Sheet => op.is_setting_flags(),
+    }
+}
+
+// Data processing.
 pub fn dp_candidate(said: &Said) -> u64
     ensures { result ≡ of_said dp_cand said.now }
 {
@@ -76,6 +86,6 @@ pub fn dp_candidate(said: &Said) -> u64
     let rn = rn_in(op, said);
     let rd = rd_in(op, said);
     let y = operand_in(op, said);
-    let mrs = u64::from(is_mrs(op, rn, y));
-    said.condition() * 0x1000_0000 + b + mrs * 0x0010_0000 + rn * 0x0001_0000 + rd * 0x1000 + y
+    let s = u64::from(test_s(said.form, op, rn, y));
+    said.condition() * 0x1000_0000 + b + s * 0x0010_0000 + rn * 0x0001_0000 + rd * 0x1000 + y
 }

@@ -14,13 +14,14 @@ use Rattle.arm7tdmi.specs.declared.Form.TheVariants.{Bench, Sheet}
 use Rattle.arm7tdmi.specs.declared.Form.{Form}
 use Rattle.arm_disass.specs.Line.{fmt_data_processing, fmt_move, fmt_opcode, fmt_test, fmt_three, op_text, line_of}
 use Rattle.arm_operand.specs.Operand.{rd_text}
-use Rattle.arm_lowest.proofs.Found.{Law, fifteen, least_found, pieces_read, printed_line}
+use Rattle.arm_print.specs.Print.{is_test_opcode, refuses_tests}
+use Rattle.arm_lowest.proofs.Found.{Law, fifteen, least_found, pieces_read, printed_line, regular}
 use Rattle.arm_lowest.proofs.Heads.{Mnemonic, dp_reads, dp_bits, dp_stem, pick}
 use Rattle.arm_lowest.proofs.Operand.{lead, op_back, op_good, op_least_lem, op_spelled, op_least, op_pieces}
-use Rattle.arm_candidate.specs.CandidateDataProcessing.{dp_cand, dp_from, is_mrs, is_three, operand_in, rd_in, rn_in, shows_rd}
+use Rattle.arm_candidate.specs.CandidateDataProcessing.{dp_cand, dp_from, is_mrs, is_three, operand_in, rd_in, rn_in, shows_rd, test_s}
 use Rattle.arm_candidate.specs.CandidateOperand.{operand_of}
 use Rattle.reading.specs.Parts.{reg_in}
-use Rattle.arm_words.proofs.DataProcessing.{DpFields, dp_least, dp_read, dp_test_lem, dp_words, dp_move, dp_rd, dp_rn, dp_s, dp_test, dp_word, mrs_shape, same_test}
+use Rattle.arm_words.proofs.DataProcessing.{DpFields, dp_least, dp_read, dp_test_lem, dp_words, dp_move, dp_rd, dp_rn, dp_s, dp_test, dp_test_s, dp_word, mrs_shape, same_test}
 use Rattle.arm_words.proofs.Scheme.{Words, bench, shown_low}
 use Rattle.common.proofs.Tests.{and_left, at, by_test}
 use Rattle.reading.proofs.Pieces.{Pieces, from_nth, good, piece, regroup, spell, word_nth}
@@ -87,6 +88,10 @@ mrs_shape_lem i op rn n h =
     (λ b. rw (a, b)))
     (λ a. rw a)))
 
+test_s_lem : (form : Form) (i op rn n : ℕ) → rn < 16 → test_s form op rn (i * 2 ^ 25 + n) ≡ dp_test_s form i op rn n
+test_s_lem Bench i op rn n h = mrs_shape_lem i op rn n h
+test_s_lem Sheet i op rn n h = refl
+
 -- what is shown of the registers
 rn_shown : (form : Form) (op rn : ℕ) → cond (is_three op) rn (cond (shows_rd form op) 0 rn) ≡ dp_rn form op rn
 rn_shown Bench op rn = by_test (is_three op) (λ e. rw e) (λ e. rw e)
@@ -136,10 +141,10 @@ module _ (form : Form) {c i op s rn rd n : ℕ} (f : DpFields c i op s rn rd n) 
       (λ e. rw (← rd_shown form op rd, e))
       (λ e. by_test (is_three op) (λ h. rw (← rn_shown form op rn, h, e)) (λ h. rw (← rn_shown form op rn, h, e)))
 
-  stem_same : dp_stem op (dp_s i op s R k) ≡ dp_stem op s
+  stem_same : dp_stem op (dp_s form i op s R k) ≡ dp_stem op s
   stem_same = by_test (dp_test op) (λ e. rw e) (λ e. rw e)
 
-  dp_same : dp_pieces form c i op (dp_s i op s R k) R D k ≡ ps
+  dp_same : dp_pieces form c i op (dp_s form i op s R k) R D k ≡ ps
   dp_same =
       let o = (op_least_lem form i n f.hi f.hn).words in
       by_test (is_three op)
@@ -190,13 +195,38 @@ module _ (form : Form) {c i op s rn rd n : ℕ} (f : DpFields c i op s rn rd n) 
     R_small : R < 16
     R_small = let l = shown_low (bench form || not (dp_move op)) rn in omega arith
 
-    dp_back : (pc : ℕ) → dp_cand form pc (dp_bits op s) c (spell ps) ≡ dp_word c i op (dp_s i op s R k) R D k
+    dp_back : (pc : ℕ) → dp_cand form pc (dp_bits op s) c (spell ps) ≡ dp_word c i op (dp_s form i op s R k) R D k
     unfolding dp_cand dp_from
     dp_back pc =
-        rw (op_bits, rn_back, rd_back, operand_back, mrs_shape_lem i op R k R_small)
+        rw (op_bits, rn_back, rd_back, operand_back, test_s_lem form i op R k R_small)
         (by_test (dp_test op)
-        (λ e. by_test (mrs_shape i op R k) (λ m. rw (e, m) (omega arith)) (λ m. rw (e, m) (omega arith)))
+        (λ e. by_test (dp_test_s form i op R k) (λ m. rw (e, m) (omega arith)) (λ m. rw (e, m) (omega arith)))
         (λ e. rw e (omega arith)))
+
+-- ---- its S
+test_opcode : (op : ℕ) → op < 16 → is_test_opcode op ≡ dp_test op
+test_opcode op h = same_test _ _ (at (λ op. beq (is_test_opcode op) (dp_test op)) 16 refl op h)
+
+sheet_tests : (form : Form) → refuses_tests form ≡ not (bench form)
+sheet_tests Bench = refl
+sheet_tests Sheet = refl
+
+module _ (form : Form) {c i op s rn rd n : ℕ} (f : DpFields c i op s rn rd n) where
+  -- a test that prints on the sheet has it
+  has_s : regular form A.DataProcessing (dp_word c i op s rn rd n) ≡ true → bench form ≡ false → dp_test op ≡ true → s ≡ 1
+  has_s p b t =
+      by_test (eqb s 1)
+      (λ y. eqb-true _ _ y)
+      (λ y. absurd (true≢false (sym p ∙ rw (sheet_tests form, b, (dp_read f).2, test_opcode op f.hop, t, (dp_read f).3, y))))
+
+  -- and one that has it prints
+  with_s : (bench form ≡ false → dp_test op ≡ true → s ≡ 1) → regular form A.DataProcessing (dp_word c i op s rn rd n) ≡ true
+  with_s h =
+      by_test (bench form)
+      (λ b. rw (sheet_tests form, b))
+      (λ b. by_test (dp_test op)
+      (λ t. rw (sheet_tests form, b, (dp_read f).2, test_opcode op f.hop, t, (dp_read f).3, h b t))
+      (λ t. rw (sheet_tests form, b, (dp_read f).2, test_opcode op f.hop, t)))
 
 pub dp_law : (form : Form) (pc : ℕ) → Words form A.DataProcessing (Law 0 dp_cand form pc)
 unfolding line_of
@@ -204,6 +234,7 @@ dp_law form pc = dp_words form (Law 0 dp_cand form pc) (λ c i op s rn rd n f e 
     let p = printed_line form A.DataProcessing pc (dp_word c i op s rn rd n) e t q in
     let hc = fifteen (dp_word c i op s rn rd n) (dp_read f).0 f.hc (p.when refl) in
     let o = op_least_lem form i n f.hi f.hn in
-    let l = dp_least f form e (op_least i n) o.low o.reg in
+    let l = dp_least f form e (op_least i n) o.low o.reg (has_s form f p.regular) in
     pieces_read (dp_pieces form c i op s rn rd n) (p.text ∙ dp_spelled form f) (dp_good form f hc) (dp_mnemonic form f hc)
-    (rw (dp_back form f hc pc) (least_found pc t e q l (λ z. (dp_read l.fields).0 ∙ sym (dp_read f).0) refl (dp_spelled form l.fields ∙ ap spell (dp_same form f) ∙ sym (dp_spelled form f)))))
+    (rw (dp_back form f hc pc) (least_found pc t e q l (λ z. (dp_read l.fields).0 ∙ sym (dp_read f).0) (with_s form l.fields (λ b t. rw (t, b)))
+    (dp_spelled form l.fields ∙ ap spell (dp_same form f) ∙ sym (dp_spelled form f)))))

@@ -15,7 +15,7 @@ use Rattle.arm7tdmi.specs.declared.alu.BarrelShifterValue.{BarrelShifterValue}
 use Rattle.arm7tdmi.specs.declared.alu.ShiftedRegister.{ShiftedRegister}
 use Rattle.arm_operand.specs.Operand.{by_amount, fmt_rn_offset, shift_by, shifted_register}
 use Rattle.arm_disass.specs.Line.{fmt_halfword, fmt_ldr_str_hs_imm_offset, fmt_ldr_str_hs_reg_offset, line_of}
-use Rattle.arm_print.specs.Print.{is_halfword, prints_cond}
+use Rattle.arm_print.specs.Print.{is_data_processing, is_halfword, prints_cond}
 use Rattle.arm_lowest.proofs.Found.{Law, fifteen, least_found, pieces_read, printed_line}
 use Rattle.arm_lowest.proofs.Heads.{half_reads, half_bits, half_stem}
 use Rattle.arm_lowest.proofs.Offset.{number_added, number_same, number_says, number_size, number_spelled, offset, offset_seen, offset_lead, register_added_lem, register_named, register_says, register_spelled, sep, transfer_base, transfer_good, transfer_pieces}
@@ -140,19 +140,19 @@ module _ (form : Form) (pc : ℕ) {c i p u w l k rn rd hi lo : ℕ} (f : HalfFie
       rw (y, d, base false, x, s, z, o) (omega arith))
 
 -- THE LAW, by a register (0) and by a number (1)
-kind_shows : (form : Form) (i : ℕ) → (prints_cond form (half_kind i) ≡ true) × (is_halfword (half_kind i) ≡ true)
-kind_shows form zero = (refl, refl)
-kind_shows form (suc i) = (refl, refl)
+kind_shows : (form : Form) (i : ℕ) → (prints_cond form (half_kind i) ≡ true) × (is_halfword (half_kind i) ≡ true) × (is_data_processing (half_kind i) ≡ false)
+kind_shows form zero = (refl, refl, refl)
+kind_shows form (suc i) = (refl, refl, refl)
 
 pub half_law : (form : Form) (pc i : ℕ) → i < 2 → Words form (half_kind i) (Law 9 half_cand form pc)
 half_law form pc i hi' = half_words form (Law 9 half_cand form pc) i hi' (λ c p u w l k rn rd hi lo f g t e.
     let r = half_read f in
     let q = printed_line form (half_kind i) pc (half_word c i p u w l k rn rd hi lo) g t e in
-    let hk : k ≡ 0 → ⊥ = λ z. true≢false (sym q.type ∙ rw ((kind_shows form i).1, r.6, z)) in
+    let hk : k ≡ 0 → ⊥ = λ z. true≢false (sym q.regular ∙ rw ((kind_shows form i).1, r.6, z)) in
     let m = half_reads l k c f.hl f.hk hk (fifteen (half_word c i p u w l k rn rd hi lo) r.0 f.hc (q.when (kind_shows form i).0)) in
     let v = half_least f form g (omega arith) in
     pieces_read (half_pieces form pc c i p u w l k rn rd hi lo) (q.text ∙ half_spelled form pc c i p u w l k rn rd hi lo f)
     (transfer_good (half_stem l k ++ cond_text c) p rn rd (offset_seen form pc (eqb i 1) p u w rn (hi * 2 ^ 4 + lo)) m.one_word f.hrn f.hrd) m
     (rw (half_back form pc f m.one_word)
-    (least_found pc t g e v (λ z. (half_read v.fields).0 ∙ sym r.0) (rw ((kind_shows form i).1, (half_read v.fields).6, ne_eqb k 0 hk))
+    (least_found pc t g e v (λ z. (half_read v.fields).0 ∙ sym r.0) (rw ((kind_shows form i).1, (half_read v.fields).6, ne_eqb k 0 hk, (kind_shows form i).2))
     (half_spelled form pc c i p _ _ l k rn rd hi lo v.fields ∙ ap spell (same_pieces form (flags_shape p (half_w p w) l rn rd) pc c i p u w l k rn rd hi lo hi') ∙ sym (half_spelled form pc c i p u w l k rn rd hi lo f)))))

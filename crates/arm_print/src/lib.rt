@@ -5,12 +5,12 @@ ghost use Rattle.std.specs.Prelude.{◌≡◌};
 ghost use Rattle.lines.specs.Answer.{printed};
 ghost use Rattle.arm_disass.specs.Line.{line_of};
 ghost use Rattle.arm_disass.proofs.Lengths.{line_within};
-ghost use Rattle.arm_print.specs.Print.{prints_cond, is_halfword, lacks_cond, lacks_type, answer_of, arm_line};
+ghost use Rattle.arm_print.specs.Print.{prints_cond, is_halfword, is_test_opcode, lacks_cond, lacks_type, lacks_flags, answer_of, arm_line};
 
 use arm::{ArmFormat, arm_format};
 use arm_disass::put_line;
 use arm7tdmi::Form;
-use arm7tdmi::bit::bit_range;
+use arm7tdmi::bit::{bit, bit_range};
 use lines::{Line, print_line};
 use refusal::Refusal;
 use text::put::Writer;
@@ -55,7 +55,7 @@ fn is_halfword(fmt: ArmFormat) -> bool
     )
 }
 
-// Whether a word's condition is printed and is 1111. This test and the next are on the bits, as the refusals are defined by them.
+// Whether a word's condition is printed and is 1111. This test and those of the other refusals are on the bits, as they are defined by them.
 fn lacks_cond(form: Form, fmt: ArmFormat, raw: u32) -> bool
     ensures { result ≡ lacks_cond form fmt raw }
 {
@@ -69,18 +69,38 @@ fn lacks_type(fmt: ArmFormat, raw: u32) -> bool
     is_halfword(fmt) && bit_range(raw, 5, 7) == 0
 }
 
-// Refusal 1, refusal 2, or the line.
-#[tactic(auto, unfolding(lines::specs::Answer::printed, crate::specs::Print::answer_of))]
+// Whether an opcode is that of tst, teq, cmp or cmn.
+fn is_test_opcode(opcode: u32) -> bool
+    ensures { result ≡ is_test_opcode opcode }
+{
+    matches!(opcode, 0b1000..=0b1011)
+}
+
+// S11: whether a word is a test whose S is clear, on the sheet.
+fn lacks_flags(form: Form, fmt: ArmFormat, raw: u32) -> bool
+    ensures { result ≡ lacks_flags form fmt raw }
+{
+    matches!((fmt, form), (ArmFormat::DataProcessing, Form::Sheet))
+        && is_test_opcode(bit_range(raw, 21, 25))
+        && !bit(raw, 20)
+}
+
+// Refusal 1, 2 or 9, in this order, or the line.
+#[tactic(auto, unfolding(lines::specs::Answer::printed, crate::specs::Print::answer_of, crate::specs::Print::refusal_of))]
 fn print_format(w: ArmLine, buf: &mut [u8]) -> Result<usize, Refusal>
     ensures { printed (answer_of w.form w.fmt w.pc w.raw) buf.old ≡ (result, buf.new) }
 {
     let no_cond = lacks_cond(w.form, w.fmt, w.raw);
     let no_type = lacks_type(w.fmt, w.raw);
+    let no_flags = lacks_flags(w.form, w.fmt, w.raw);
     if no_cond {
         return Err(Refusal::NoCondition);
     }
     if no_type {
         return Err(Refusal::NoTransfer);
+    }
+    if no_flags {
+        return Err(Refusal::NoFlags);
     }
     print_line(&w, buf)
 }

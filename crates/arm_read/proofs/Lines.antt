@@ -1,23 +1,22 @@
 -- How long lines are; and what is read. Assumes nothing.
 use Prim.Native.Nat.{◌<◌, ◌^◌, ◌≤◌, ℕ}
 use borrow.Author.Tests.{lt-ltb}
-use lib.Dec.{eqb}
 use lib.ListN.{length}
-use mathlib.Core.Bool.{◌&&◌, false, true}
+use mathlib.Core.Bool.{false, true}
 use mathlib.Core.List.{List}
 use mathlib.Core.Path.{◌≡◌, refl}
 use Rattle.lines.specs.Answer.{Answer, line, refused}
 use Rattle.arm.specs.Kinds.{arm_format}
 use Rattle.arm7tdmi.specs.declared.Form.{Form}
 use Rattle.arm_disass.proofs.Lengths.{line_within}
-use Rattle.arm_print.specs.Print.{answer_of, arm_line, is_halfword, prints_cond}
+use Rattle.arm_print.specs.Print.{answer_of, arm_line, line_unless}
+use Rattle.arm_print.proofs.Whole.{by_refusal}
+use Rattle.arm_disass.specs.Line.{line_of}
 use Rattle.arm_lowest.proofs.Read.{candidate_lt, read_arm_lem}
 use Rattle.arm_candidate.specs.Candidate.{candidate}
 use Rattle.arm_read.specs.Answer.{read_answer}
 use Rattle.std.specs.Prelude.{⊤, None, Some}
 use Rattle.common.proofs.Lists.{other}
-use Rattle.common.proofs.Tests.{by_test}
-use Rattle.common.specs.Bits.{bit_range}
 use Rattle.reading.specs.Read.{is_line}
 use Rattle.text.proofs.Within.{Within}
 
@@ -30,9 +29,7 @@ pub arm_sound : (form : Form) (pc w : ℕ) → Sound (arm_line form pc w)
 unfolding arm_line answer_of
 arm_sound form pc w =
     let f = arm_format form w in
-    by_test (prints_cond form f && eqb (bit_range w 28 32) 15)
-    (λ e. rw e tt)
-    (λ e. rw e (by_test (is_halfword f && eqb (bit_range w 5 7) 0) (λ d. rw d tt) (λ d. rw d (line_within form f pc w))))
+    by_refusal (λ a. Sound (line_unless a (line_of form f pc w))) form f w tt tt (λ s. tt) (line_within form f pc w)
 
 -- a line of another length is the line of no word
 pub not_line : (a : Answer) (l : List ℕ) → Sound a → (5 ≤ length l → length l ≤ 80 → ⊥) → is_line a l ≡ false

@@ -128,17 +128,20 @@ pub dp_test_lem : (op : ℕ) → op < 16 → is_setting_flags (alu_op_code op) �
 unfolding alu_op_code
 dp_test_lem op h = same_test _ _ (at (λ op. beq (is_setting_flags (alu_op_code op)) (dp_test op)) 16 refl op h)
 
--- Rn of a move on the sheet, Rd of a test and on the bench (S1), and S of a test, unless that would be mrs
+-- Rn of a move on the sheet, Rd of a test and on the bench (S1), and on the bench S of a test, unless that would be mrs; on the sheet a test has S (S11)
 abbrev pub dp_rn : Form → ℕ → ℕ → ℕ
 dp_rn form op rn = shown (bench form || not (dp_move op)) rn
 
 abbrev pub dp_rd : Form → ℕ → ℕ → ℕ
 dp_rd form op rd = shown (not (bench form || dp_test op)) rd
 
-abbrev pub dp_s : ℕ → ℕ → ℕ → ℕ → ℕ → ℕ
-dp_s i op s rn n = cond (dp_test op) (cond (mrs_shape i op rn n) 1 0) s
+abbrev pub dp_test_s : Form → ℕ → ℕ → ℕ → ℕ → Bool
+dp_test_s form i op rn n = not (bench form) || mrs_shape i op rn n
 
-module _ {c i op s rn rd n : ℕ} (f : DpFields c i op s rn rd n) (form : Form) (e : arm_format form (dp_word c i op s rn rd n) ≡ A.DataProcessing) (k : ℕ) (low : k ≤ n) (o : i ≡ 0 → ShiftLeast n k) where
+abbrev pub dp_s : Form → ℕ → ℕ → ℕ → ℕ → ℕ → ℕ
+dp_s form i op s rn n = cond (dp_test op) (cond (dp_test_s form i op rn n) 1 0) s
+
+module _ {c i op s rn rd n : ℕ} (f : DpFields c i op s rn rd n) (form : Form) (e : arm_format form (dp_word c i op s rn rd n) ≡ A.DataProcessing) (k : ℕ) (low : k ≤ n) (o : i ≡ 0 → ShiftLeast n k) (sheet : bench form ≡ false → dp_test op ≡ true → s ≡ 1) where
   abbrev R : ℕ
   R = dp_rn form op rn
 
@@ -146,7 +149,7 @@ module _ {c i op s rn rd n : ℕ} (f : DpFields c i op s rn rd n) (form : Form) 
   D = dp_rd form op rd
 
   abbrev S : ℕ
-  S = dp_s i op s (dp_rn form op rn) k
+  S = dp_s form i op s (dp_rn form op rn) k
 
   r_low : R ≤ rn
   r_low = shown_low (bench form || not (dp_move op)) rn
@@ -168,16 +171,21 @@ module _ {c i op s rn rd n : ℕ} (f : DpFields c i op s rn rd n) (form : Form) 
   s_low : S ≤ s
   s_low =
       by_test (dp_test op)
-      (λ t. by_test (mrs_shape i op R k)
-      (λ m. let y = dp_s_lem f form e (eqb-true _ _ t) (mrs m) in rw (t, m) (omega arith))
-      (λ m. rw (t, m) (omega arith)))
+      (λ t. by_test (bench form)
+      (λ b. by_test (mrs_shape i op R k)
+      (λ m. let y = dp_s_lem f form e (eqb-true _ _ t) (mrs m) in rw (t, m, b) (omega arith))
+      (λ m. rw (t, m, b) (omega arith)))
+      (λ b. let y = sheet b t in rw (t, b) (omega arith)))
       (λ t. rw t (omega arith))
 
   s_mrs : dp_test op ≡ true → S ≡ 0 → mrs_shape i op R k ≡ false
-  s_mrs t z = by_test (mrs_shape i op R k) (λ m. let y : ◌≡◌ {A = ℕ} 1 0 = rw (t, m) at z in absurd (omega arith)) (λ m. m)
+  s_mrs t z =
+      by_test (mrs_shape i op R k)
+      (λ m. let x : S ≡ 1 = by_test (bench form) (λ b. rw (t, m, b)) (λ b. rw (t, b)) in absurd (omega (arith, x, z)))
+      (λ m. m)
 
   -- with any operand 2 that is not higher, and a register's as far as it is shown
-  pub dp_least : let r = dp_rn form op rn in let d = dp_rd form op rd in let t = dp_s i op s r k in
+  pub dp_least : let r = dp_rn form op rn in let d = dp_rd form op rd in let t = dp_s form i op s r k in
       Least (DpFields c i op t r d k) form A.DataProcessing (dp_word c i op t r d k) (dp_word c i op s rn rd n)
   dp_least =
       let a = r_low in

@@ -22,6 +22,8 @@ pub enum Refusal {
     WrongStretches = 7,
     // the place is past the image, or no start of a word
     WrongPlace = 8,
+    // on the sheet, a test (tst, teq, cmp, cmn) whose S is clear
+    NoFlags = 9,
 }
 
 // The number that C and the row program's output know a refusal by; 0 is none of them.

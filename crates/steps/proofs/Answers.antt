@@ -7,7 +7,7 @@ use Rattle.lines.specs.Answer.{refused, line, printed}
 use Rattle.refusal.specs.Refusal.{number}
 use Rattle.refusal.specs.declared.Refusal.{Refusal}
 use Rattle.lines.proofs.Whole.{Whole, with_room, print_kept}
-use Rattle.arm_print.proofs.Whole.{arm_whole, arm_refusals}
+use Rattle.arm_print.proofs.Whole.{WordRefusal, arm_whole, arm_refusals}
 use Rattle.thumb.specs.Pair.{is_pair}
 use Rattle.thumb_print.specs.Print.{thumb_line}
 use Rattle.thumb_print.proofs.Lengths.{thumb_whole}
@@ -101,10 +101,10 @@ pair_shown image n p at k t e =
     let f = pair_prints p (half image at) (half image (at + 2)) (and_right (leb (at + 4) n) (is_pair (half image at) (half image (at + 2))) t) in
     let z : ◌≡◌ {A = ℕ} 0 1 = cc in omega arith
 
--- "refusal 1 or 2 for that word", which is an ARM word, so of 4 bytes
-pub word_refusals : (image : List ℕ) (s : Set) (p at : ℕ) (k : Refusal) → span_line image (span_in image s at) p at ≡ refused k → (span_bytes (span_in image s at) ≡ 4) × (1 ≤ number k) × (number k ≤ 2)
+-- "refusal 1 or 2 for that word", and 9, "as for 1 and 2": it is an ARM word, so of 4 bytes
+pub word_refusals : (image : List ℕ) (s : Set) (p at : ℕ) (k : Refusal) → span_line image (span_in image s at) p at ≡ refused k → (span_bytes (span_in image s at) ≡ 4) × WordRefusal Sheet k
 unfolding span_in span_line
-word_refusals image Set.Arm p at k e = let r = arm_refusals Sheet p (word image at) k e in (refl, r.0, r.1)
+word_refusals image Set.Arm p at k e = (refl, arm_refusals Sheet p (word image at) k e)
 word_refusals image (Set.Thumb n) p at k e =
     by_test (call_pair image n at)
     (λ t. absurd (pair_shown image n p at k t (rw t at e)))

@@ -12,7 +12,7 @@ use Rattle.steps.specs.declared.Listed.{Listed}
 use Rattle.steps.specs.declared.Listed.TheVariants.{Line, Refused, NoRoom, End}
 
 -- ---- the parts of an answer
--- none for a line and at the end; 1 or 2 for a word, 3 for the buffer
+-- none for a line and at the end; 1, 2 or 9 for a word, 3 for the buffer
 abbrev pub listed_refusal : Listed → Option Refusal
 listed_refusal (Line at bytes n) = None
 listed_refusal (Refused r at bytes) = Some r

@@ -30,7 +30,7 @@ span_bytes Word = 4
 span_bytes Half = 2
 span_bytes Pair = 4
 
--- what it shows at an address p: "a sheet line, or refusal 1 or 2 for that word"
+-- what it shows at an address p: "a sheet line, or refusal 1 or 2 for that word", and 9, "as for 1 and 2"
 unfoldable pub span_line : List ℕ → Span → ℕ → ℕ → Answer
 span_line image Word p at = arm_line Sheet p (word image at)
 span_line image Half p at = thumb_line Sheet p (half image at)

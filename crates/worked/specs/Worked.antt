@@ -1,10 +1,10 @@
--- The worked lines of the scope paper that are marked as proved, and those at address 100, as document 02 (i) respells them; and shifts by an amount
--- of 0, as document 02 (ii) has them. Assumes nothing.
+-- The worked lines of the scope paper that are marked as proved, and those at address 100, as document 02 (i) respells them; shifts by an amount
+-- of 0, as document 02 (ii) has them; and tests without S, as document 02 (vii) has them. Assumes nothing.
 use Rattle.std.specs.Prelude.{List, [], ◌∷◌, ℕ}
 use Prim.Native.String.{String}
 use Rattle.text.specs.Text.{text}
 use Rattle.refusal.specs.declared.Refusal.{Refusal}
-use Rattle.refusal.specs.declared.Refusal.TheVariants.{NoCondition, NoTransfer}
+use Rattle.refusal.specs.declared.Refusal.TheVariants.{NoCondition, NoTransfer, NoFlags}
 use Rattle.lines.specs.Answer.{Answer, refused, line}
 use Rattle.arm7tdmi.specs.declared.Form.{Form}
 use Rattle.arm7tdmi.specs.declared.Form.TheVariants.{Bench, Sheet}
@@ -68,11 +68,33 @@ table =
     ∷ row (arm 0xF1800090 0) (refuses NoCondition) (refuses NoCondition)
     ∷ row (arm 0xE1A01022 0) (shows "mov\tr0, r2, lsr #0") (shows "mov\tr1, r2, lsr #32")
     ∷ row (arm 0xE1A01062 0) (shows "mov\tr0, r2, ror #0") (shows "mov\tr1, r2, rrx")
+    ∷ row (arm 0xE1000000 0) (shows "tst\tr0, r0") (refuses NoFlags)
+    ∷ row (arm 0xE1200000 0) (shows "teq\tr0, r0") (refuses NoFlags)
+    ∷ row (arm 0xE1400000 0) (shows "cmp\tr0, r0") (refuses NoFlags)
+    ∷ row (arm 0xE1600000 0) (shows "cmn\tr0, r0") (refuses NoFlags)
+    ∷ row (arm 0xE3000000 0) (shows "tst\tr0, #0\t; 0x0") (refuses NoFlags)
+    ∷ row (arm 0xE3200000 0) (shows "teq\tr0, #0\t; 0x0") (refuses NoFlags)
+    ∷ row (arm 0xE3400000 0) (shows "cmp\tr0, #0\t; 0x0") (refuses NoFlags)
+    ∷ row (arm 0xE3600000 0) (shows "cmn\tr0, #0\t; 0x0") (refuses NoFlags)
+    ∷ row (arm 0xE1100000 0) (shows "tst\tr0, r0") (shows "tst\tr0, r0")
+    ∷ row (arm 0xE3700000 0) (shows "cmn\tr0, #0\t; 0x0") (shows "cmn\tr0, #0\t; 0x0")
+    ∷ row (arm 0xF1000000 0) (refuses NoCondition) (refuses NoCondition)
+    ∷ row (arm 0xE1000090 0) (shows "swp\tr0, r0, [r0]") (shows "swp\tr0, r0, [r0]")
+    ∷ row (arm 0xE10000B0 0) (shows "strh\tr0, [r0, -r0]") (shows "strh\tr0, [r0, -r0]")
+    ∷ row (arm 0xE129F000 0) (shows "msr\tCPSR, r0") (shows "msr\tCPSR, r0")
+    ∷ row (arm 0xE328F000 0) (shows "msr\tCPSR_f, #0\t; 0x0\t; N=false Z=false C=false V=false") (shows "msr\tCPSR_f, #0\t; 0x0\t; N=false Z=false C=false V=false")
+    ∷ row (arm 0xE121F000 0) (shows "teq\tr1, r0") (refuses NoFlags)
+    ∷ row (arm 0xE120F000 0) (shows "teq\tr0, r0") (refuses NoFlags)
+    ∷ row (arm 0xE320F000 0) (shows "teq\tr0, #0\t; 0x0") (refuses NoFlags)
     ∷ row (thumb 0x0808 0) (shows "LSR\tr0, r1, #0") (shows "LSR\tr0, r1, #32")
     ∷ row (thumb 0x4480 0) (shows "add\tr0, r0") (shows "add\tr8, r0")
     ∷ row (thumb 0xC808 0) (shows "ldm\tr1!, {r3}") (shows "ldm\tr0!, {r3}")
     ∷ row (thumb 0xB0FF 0) (shows "add\tsp, #fffffe04") (shows "add\tsp, #-0x1fc")
     ∷ row (arm_read (text "tst\tpc, r0")) (word 0xE11F0000) (word 0xE11F0000)
+    ∷ row (arm_read (text "tst\tr0, r0")) (word 0xE1000000) (word 0xE1100000)
+    ∷ row (arm_read (text "teq\tr0, #0\t; 0x0")) (word 0xE3200000) (word 0xE3300000)
+    ∷ row (arm_read (text "cmp\tr0, r0")) (word 0xE1400000) (word 0xE1500000)
+    ∷ row (arm_read (text "cmn\tr0, #0\t; 0x0")) (word 0xE3600000) (word 0xE3700000)
     ∷ row (arm_read (text "<Undefined>")) (word 0x06000000) (word 0x06000010)
     ∷ apart (arm_read (text "mov\tr0, r2, lsr #0")) (word 0xE1A00022) (arm_read (text "mov\tr1, r2, lsr #32")) (word 0xE1A01022)
     ∷ apart (thumb_read (text "b\t0x104") 0x100) (word 0xDE00) (thumb_read (text "b\t0x00000104") 0x100) (word 0xE000)

@@ -4,9 +4,10 @@ use Rattle.std.specs.Prelude.{⊤}
 use Rattle.refusal.specs.declared.Refusal.{Refusal}
 use Rattle.refusal.specs.declared.Refusal.TheVariants.{NoWord}
 use Rattle.common.specs.Lists.{first, same}
-use Rattle.text.specs.Digits.{digit_value, digits, hex, prefixed, value_from}
+use Rattle.common.specs.Lowest.{lowest}
+use Rattle.text.specs.Digits.{dec, digit_value, digits, hex, prefixed, value_from}
 use Rattle.text.specs.Word as Words
-use Rattle.arm7tdmi.specs.Alu.{alu_op_code, amount_of, barrel_shift_op_code, sheet_amount}
+use Rattle.arm7tdmi.specs.Alu.{alu_op_code, amount_of, barrel_shift_op_code, decode_rotated_immediate, rotate_right, sheet_amount}
 use Rattle.arm7tdmi.specs.Cond.{arm_cond}
 use Rattle.arm7tdmi.specs.Names.{cond_named, cond_names, cond_text, reg_named, reg_names, reg_string}
 use Rattle.arm7tdmi.specs.Signed.{extended, moved}
@@ -20,7 +21,7 @@ use Rattle.arm_operand.specs.Operand as AOperand
 use Rattle.arm_print.specs.Print as APrint
 use Rattle.arm_candidate.specs.Candidate.{candidate}
 use Rattle.arm_candidate.specs.CandidateDataProcessing.{dp_cand, dp_from}
-use Rattle.arm_candidate.specs.CandidateOperand.{operand_of, shift_named, shift_names, shift_of, shifted_of}
+use Rattle.arm_candidate.specs.CandidateOperand.{immediate_of, operand_of, rotation_of, shift_named, shift_names, shift_of, shifted_of}
 use Rattle.arm_candidate.specs.CandidateSimple.{undefined_cand}
 use Rattle.arm_mnemonic.specs.Heads.{cond_of, head_of, stem_names, stem_of, stems}
 use Rattle.arm_lowest.specs.Read.{read_arm}
@@ -71,7 +72,7 @@ abbrev law_row : Row → Row
 law_row r = row_of r (by_law r.image r.list r.base r.offset r.line)
 
 computed : map law_row table ≡ table
-unfolding half word refusal refusal_at wrong_pairs pairs pairs_from set_at patch_refusal with_number call_pair span_in span_line steps steps_for is_pair is_first_half is_second_half pair_target pair_line pair_text first same digits hex prefixed digit_value value_from address extended alu_op_code amount_of barrel_shift_op_code sheet_amount arm_cond arm_rows thumb_rows reg_names reg_string cond_names cond_text reg_named cond_named cond_at either if_set reg_at Arm.branch_offset Arm.branch_target Arm.bs_op Arm.shift_reg_by Arm.operand2 ALine.op_text ALine.fmt_branch ALine.fmt_move ALine.fmt_three ALine.fmt_opcode ALine.fmt_data_processing AOperand.shift_text AOperand.places_text AOperand.amount_text AOperand.by_amount AOperand.shift_by AOperand.shifted_register AOperand.fmt_operand2 AOperand.rd_text ALine.line_of APrint.answer_of APrint.arm_line candidate dp_cand dp_from undefined_cand cond_of head_of stem_names stem_of stems operand_of shift_named shift_names shift_of shifted_of Words.is_word Words.word Words.behind Words.after Words.has Thumb.op_format5 Thumb.branch_target Thumb.call_half TOperand.high_dst TOperand.dst_reg TOperand.src_reg TOperand.dst_and_src TOperand.high_operands TLine.op5_text TLine.fmt_thumb_high_reg_op_or_bx TLine.fmt_thumb_branch TLine.fmt_thumb_branch_long_with_link TLine.line_of TPrint.thumb_line TCandidate.candidates TCandidate.candidate TCandidate.operands TCandidate.offset_in TCandidate.high_in TCandidate.low_in TCandidate.shift_in TCandidate.suits TLine.shift_text TLine.fmt_thumb_move_shifted_reg rows best
+unfolding half word refusal refusal_at wrong_pairs pairs pairs_from set_at patch_refusal with_number call_pair span_in span_line steps steps_for is_pair is_first_half is_second_half pair_target pair_line pair_text first same digits hex prefixed dec digit_value value_from address extended alu_op_code amount_of barrel_shift_op_code decode_rotated_immediate rotate_right sheet_amount arm_cond arm_rows thumb_rows reg_names reg_string cond_names cond_text reg_named cond_named cond_at either if_set reg_at Arm.branch_offset Arm.branch_target Arm.bs_op Arm.shift_reg_by Arm.operand2 ALine.op_text ALine.fmt_branch ALine.fmt_move ALine.fmt_test ALine.fmt_three ALine.fmt_opcode ALine.fmt_data_processing AOperand.shift_text AOperand.places_text AOperand.amount_text AOperand.by_amount AOperand.shift_by AOperand.shifted_register AOperand.fmt_operand2 AOperand.immediate AOperand.decoded_text AOperand.rd_text ALine.line_of APrint.refusal_of APrint.answer_of APrint.arm_line candidate dp_cand dp_from undefined_cand cond_of head_of stem_names stem_of stems immediate_of lowest operand_of rotation_of shift_named shift_names shift_of shifted_of Words.is_word Words.word Words.behind Words.after Words.has Thumb.op_format5 Thumb.branch_target Thumb.call_half TOperand.high_dst TOperand.dst_reg TOperand.src_reg TOperand.dst_and_src TOperand.high_operands TLine.op5_text TLine.fmt_thumb_high_reg_op_or_bx TLine.fmt_thumb_branch TLine.fmt_thumb_branch_long_with_link TLine.line_of TPrint.thumb_line TCandidate.candidates TCandidate.candidate TCandidate.operands TCandidate.offset_in TCandidate.high_in TCandidate.low_in TCandidate.shift_in TCandidate.suits TLine.shift_text TLine.fmt_thumb_move_shifted_reg rows best
 computed = refl
 
 -- rows that are given alike are given alike as a table

@@ -1,9 +1,9 @@
--- Listings of images, from the start and resumed, as document 02 (v) and (vi) have them. Assumes nothing.
+-- Listings of images, from the start and resumed, as document 02 (v), (vi) and (vii) have them. Assumes nothing.
 use Rattle.std.specs.Prelude.{ℕ, ◌/◌, ◌%◌, ◌^◌, List, [], ◌∷◌, ◌++◌, Result, Ok, Err, ⊤}
 use Prim.Native.String.{String}
 use Rattle.text.specs.Text.{text}
 use Rattle.refusal.specs.declared.Refusal.{Refusal}
-use Rattle.refusal.specs.declared.Refusal.TheVariants.{NoCondition, NoTransfer, WrongImage, WrongStretches, WrongPlace}
+use Rattle.refusal.specs.declared.Refusal.TheVariants.{NoCondition, NoTransfer, WrongImage, WrongStretches, WrongPlace, NoFlags}
 use Rattle.lines.specs.Answer.{refused, line}
 use Rattle.image.specs.Refusal.{refusal_at}
 use Rattle.steps.specs.Steps.{Step, steps}
@@ -42,7 +42,7 @@ stretch offset bytes = word offset ++ word bytes
 abbrev pub prints : ℕ → ℕ → String → Step
 prints offset bytes s = record { offset = offset; bytes = bytes; shows = line (text s) }
 
-abbrev refuses : ℕ → ℕ → Refusal → Step
+abbrev pub refuses : ℕ → ℕ → Refusal → Step
 refuses offset bytes r = record { offset = offset; bytes = bytes; shows = refused r }
 
 abbrev resumes : ℕ → List ℕ → List ℕ → ℕ → List Step → Row
@@ -68,12 +68,16 @@ table =
     ∷ lists (half 0xF000 ++ half 0xF800 ++ half 0xF800 ++ half 0x4770) (stretch 0 8) 0 (prints 0 4 "bl\t0x00000004" ∷ prints 4 2 "bl\t#0x00000000" ∷ prints 6 2 "bx\tlr" ∷ [])
     -- words that are refused, and addresses past the last one
     ∷ lists (word 0xF12FFF10 ++ word 0xE1800090 ++ word 0xEAFFFFFE) [] 0 (refuses 0 4 NoCondition ∷ refuses 4 4 NoTransfer ∷ prints 8 4 "b\t0x00000008" ∷ [])
+    ∷ lists (word 0xE1000000 ++ word 0xF1000000 ++ word 0xE3600000 ++ word 0xE1100000) [] 0
+    (refuses 0 4 NoFlags ∷ refuses 4 4 NoCondition ∷ refuses 8 4 NoFlags ∷ prints 12 4 "tst\tr0, r0" ∷ [])
     ∷ lists (word 0xEAFFFFFE ++ half 0xF000 ++ half 0xF800) (stretch 4 4) 0xFFFFFFFE (prints 0 4 "b\t0xfffffffe" ∷ prints 4 4 "bl\t0x00000006" ∷ [])
     -- resumed: at a pair, at its second half, which prints alone, behind it, and at the end
     ∷ resumes 2 (half 0x4770 ++ half 0xF000 ++ half 0xF800 ++ half 0x4770) (stretch 0 8) 0 (prints 2 4 "bl\t0x00000006" ∷ prints 6 2 "bx\tlr" ∷ [])
     ∷ resumes 4 (half 0x4770 ++ half 0xF000 ++ half 0xF800 ++ half 0x4770) (stretch 0 8) 0 (prints 4 2 "bl\t#0x00000000" ∷ prints 6 2 "bx\tlr" ∷ [])
     ∷ resumes 6 (half 0x4770 ++ half 0xF000 ++ half 0xF800 ++ half 0x4770) (stretch 0 8) 0 (prints 6 2 "bx\tlr" ∷ [])
     ∷ resumes 8 (half 0x4770 ++ half 0xF000 ++ half 0xF800 ++ half 0x4770) (stretch 0 8) 0 []
+    -- and at a word that is refused with 9
+    ∷ resumes 4 (word 0xEAFFFFFE ++ word 0xE1400000 ++ word 0xEAFFFFFE) [] 0 (refuses 4 4 NoFlags ∷ prints 8 4 "b\t0x00000008" ∷ [])
     ∷ []
 
 -- an image, a list of stretches and an offset that are refused

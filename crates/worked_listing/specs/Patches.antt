@@ -1,12 +1,12 @@
--- Patches of images, as document 02 (vi) has them. Assumes nothing.
+-- Patches of images, as document 02 (vi) and (vii) have them. Assumes nothing.
 use Rattle.std.specs.Prelude.{ℕ, List, [], ◌∷◌, ◌++◌, Result, Ok, Err, ⊤}
 use Rattle.refusal.specs.declared.Refusal.{Refusal}
-use Rattle.refusal.specs.declared.Refusal.TheVariants.{NoWord, WrongPlace}
+use Rattle.refusal.specs.declared.Refusal.TheVariants.{NoWord, WrongPlace, NoFlags}
 use Prim.Native.String.{String}
 use Rattle.text.specs.Text.{text}
 use Rattle.steps.specs.Steps.{Step, steps}
 use Rattle.patch.specs.Patch.{patched}
-use Rattle.worked_listing.specs.Listings.{half, prints, stretch, word}
+use Rattle.worked_listing.specs.Listings.{half, prints, refuses, stretch, word}
 
 -- an image with the list of its stretches and its base, an offset and a line; what the patch answers, the image then, and its steps from the offset on
 pub record Row : Type 0 where
@@ -57,6 +57,9 @@ table =
     ∷ patch lr (stretch 0 4) 0 2 "<Undefined>" (half 0x4770 ++ half 0xB100) (prints 2 2 "<Undefined>" ∷ [])
     ∷ patch two [] 0 4 "<Undefined>" (word 0xEAFFFFFE ++ word 0x06000010) (prints 4 4 "<Undefined>" ∷ [])
     ∷ patch (half 0xF000 ++ half 0x4770) (stretch 0 4) 0 2 "bl\t#0x00000000" (half 0xF000 ++ half 0xF000) (prints 2 2 "bl\t#0x00000000" ∷ [])
+    -- the line of a test reads as the word with S; the word behind, without S, is as it was
+    ∷ patch (word 0xE1000000 ++ word 0xE1000000) [] 0 0 "tst\tr0, r0" (word 0xE1100000 ++ word 0xE1000000) (prints 0 4 "tst\tr0, r0" ∷ refuses 4 4 NoFlags ∷ [])
+    ∷ patch two [] 0 4 "cmn\tr0, #0\t; 0x0" (word 0xEAFFFFFE ++ word 0xE3700000) (prints 4 4 "cmn\tr0, #0\t; 0x0" ∷ [])
     -- a pair is made with the neighbour, broken, and refused where a halfword is due
     ∷ patch (half 0x4770 ++ half 0xF800) (stretch 0 4) 0 0 "bl\t#0x00000000" (half 0xF000 ++ half 0xF800) (prints 0 4 "bl\t0x00000004" ∷ [])
     ∷ patch (half 0xF000 ++ half 0xF800) (stretch 0 4) 0 0 "bx\tlr" (half 0x4770 ++ half 0xF800) (prints 0 2 "bx\tlr" ∷ prints 2 2 "bl\t#0x00000000" ∷ [])

@@ -12,4 +12,4 @@ unfolding dp_cand dp_from
 returns c =
     let b = c.args.said.now.head.bits in
     let e : alu_number c.from-op.result ≡ b / 2 ^ 21 = ap alu_number c.from-op.ensures ∙ op_numbered (b / 2 ^ 21) (omega arith) in
-    rw (c.condition.ensures.0, c.bits-b.ensures.0, c.from-mrs.ensures, c.is_mrs.ensures, flag_number, c.rn_in-rn.ensures.0, c.rd_in-rd.ensures.0, c.operand_in-y.ensures.0, e)
+    rw (c.condition.ensures.0, c.bits-b.ensures.0, c.from-s.ensures, c.test_s.ensures, flag_number, c.rn_in-rn.ensures.0, c.rd_in-rd.ensures.0, c.operand_in-y.ensures.0, e)
