@@ -1,7 +1,7 @@
 -- Print ARM: the refusals and the line of a word, at an address, in a form. Assumes nothing.
-use Rattle.std.specs.Prelude.{Bool, true, false, cond, ◌&&◌, not, ℕ, eqb, leb, List, Option, Some, None}
+use Rattle.std.specs.Prelude.{Bool, true, false, cond, ◌&&◌, ◌||◌, not, ℕ, eqb, leb, List, Option, Some, None}
 use Rattle.common.specs.Bits.{bit, bit_range}
-use Rattle.arm.specs.Kinds.{arm_format}
+use Rattle.arm.specs.Kinds.{arm_format, arm_number}
 use Rattle.lines.specs.Answer.{Answer, refused, line}
 use Rattle.refusal.specs.declared.Refusal.{Refusal}
 use Rattle.refusal.specs.declared.Refusal.TheVariants.{NoCondition, NoTransfer, NoFlags}
@@ -33,41 +33,17 @@ prints_cond form A.MoveToStatus = true
 prints_cond form A.MoveToFlags = true
 prints_cond form A.Undefined = false
 
+-- whether a kind is another, by their numbers
+abbrev is_kind : ArmFormat → ArmFormat → Bool
+is_kind fmt k = eqb (arm_number fmt) (arm_number k)
+
 -- "a halfword-transfer kind"
 abbrev pub is_halfword : ArmFormat → Bool
-is_halfword A.BranchExchange = false
-is_halfword A.BranchLink = false
-is_halfword A.SoftwareInterrupt = false
-is_halfword A.Multiply = false
-is_halfword A.MultiplyLong = false
-is_halfword A.SingleDataTransfer = false
-is_halfword A.HalfwordDataTransferRegOffset = true
-is_halfword A.HalfwordDataTransferImmediateOffset = true
-is_halfword A.DataProcessing = false
-is_halfword A.BlockDataTransfer = false
-is_halfword A.SingleDataSwap = false
-is_halfword A.MoveFromStatus = false
-is_halfword A.MoveToStatus = false
-is_halfword A.MoveToFlags = false
-is_halfword A.Undefined = false
+is_halfword fmt = is_kind fmt A.HalfwordDataTransferRegOffset || is_kind fmt A.HalfwordDataTransferImmediateOffset
 
 -- "a data-processing word"
 abbrev pub is_data_processing : ArmFormat → Bool
-is_data_processing A.BranchExchange = false
-is_data_processing A.BranchLink = false
-is_data_processing A.SoftwareInterrupt = false
-is_data_processing A.Multiply = false
-is_data_processing A.MultiplyLong = false
-is_data_processing A.SingleDataTransfer = false
-is_data_processing A.HalfwordDataTransferRegOffset = false
-is_data_processing A.HalfwordDataTransferImmediateOffset = false
-is_data_processing A.DataProcessing = true
-is_data_processing A.BlockDataTransfer = false
-is_data_processing A.SingleDataSwap = false
-is_data_processing A.MoveFromStatus = false
-is_data_processing A.MoveToStatus = false
-is_data_processing A.MoveToFlags = false
-is_data_processing A.Undefined = false
+is_data_processing fmt = is_kind fmt A.DataProcessing
 
 -- "with opcode 1000 to 1011": tst, teq, cmp and cmn
 abbrev pub is_test_opcode : ℕ → Bool
