@@ -1,16 +1,19 @@
 /* Modestsilk: lines of ARM7TDMI instruction words.
  *
  * Any word, address and buffer gets an answer; nothing has to be checked first.
- * A form of 0 is bench, every other number sheet. A print answers 0, or the
- * number of a refusal: 1 (condition 1111 where the condition is printed),
- * 2 (halfword transfer of type 00), 9 (on the sheet: a test, tst, teq, cmp or cmn,
- * whose S, bit 20, is clear), 3 (the buffer is shorter than the line), in this
- * order, and of a call pair 5 (the halfwords are not a first half and then a
- * second), which comes before 3. The length goes through the pointer and is 0 on a
- * refusal; the bytes behind the line, and on a refusal all bytes, keep their
- * values. A line has from 5 to 80 bytes and no end mark, that of a pair 13. A read
- * takes any bytes and answers 0 with the lowest word that prints just that line at
- * that address, or 4 with word 0 where no word does.
+ * A form of 0 is bench, every other number sheet. A kind is answered as one of the
+ * numbers below. That of a Thumb word goes by its top byte, bits 15 to 8, alone, so
+ * silk_kind_thumb_top(form, w >> 8) is silk_kind_thumb(form, w) for every w.
+ *
+ * A print answers 0, or the number of a refusal: 1 (condition 1111 where the
+ * condition is printed), 2 (halfword transfer of type 00), 9 (on the sheet: a test,
+ * tst, teq, cmp or cmn, whose S, bit 20, is clear), 3 (the buffer is shorter than
+ * the line), in this order, and of a call pair 5 (the halfwords are not a first half
+ * and then a second), which comes before 3. The length goes through the pointer and
+ * is 0 on a refusal; the bytes behind the line, and on a refusal all bytes, keep
+ * their values. A line has from 5 to 80 bytes and no end mark, that of a pair 13. A
+ * read takes any bytes and answers 0 with the lowest word that prints just that line
+ * at that address, or 4 with word 0 where no word does.
  *
  * A Thumb call is two halfwords, a first half (top bits 11110) and then a second
  * (11111). silk_print_pair prints the two as one sheet line with the call's
@@ -117,6 +120,7 @@ enum silk_thumb_kind {
 
 uint32_t silk_kind_arm(uint32_t form, uint32_t word);
 uint32_t silk_kind_thumb(uint32_t form, uint16_t word);
+uint32_t silk_kind_thumb_top(uint32_t form, uint8_t top);
 
 uint32_t silk_print_arm(uint32_t form, uint32_t word, uint32_t address, uint8_t *line, size_t capacity, size_t *length);
 uint32_t silk_print_thumb(uint32_t form, uint16_t word, uint32_t address, uint8_t *line, size_t capacity, size_t *length);

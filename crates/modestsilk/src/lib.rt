@@ -6,6 +6,7 @@ ghost use Rattle.std.specs.Prelude.{◌≡◌};
 ghost use Rattle.lines.specs.Answer.{printed};
 ghost use Rattle.arm.specs.Kinds.{arm_format, arm_number};
 ghost use Rattle.thumb.specs.Kinds.{thumb_format, thumb_number};
+ghost use Rattle.thumb_top.specs.Top.{top_kind};
 ghost use Rattle.arm_print.specs.Print.{arm_line};
 ghost use Rattle.arm_read.specs.Answer as Arm;
 ghost use Rattle.thumb_read.specs.Answer as Thumb;
@@ -31,6 +32,7 @@ use steps::list_step;
 use thumb::thumb_format;
 use thumb_print::print_thumb;
 use thumb_read::read_thumb;
+use thumb_top::top_kind;
 
 // The form of a number: 0 is the bench, any other the sheet. That is what C says by a number, so it is no conversion of `Form` itself.
 fn form_of(n: u32) -> Form
@@ -69,6 +71,15 @@ pub extern "C" fn silk_kind_thumb(form: u32, word: u16) -> u32
     ensures { result ≡ thumb_number (thumb_format (form_of form) word) }
 {
     let fmt = thumb_format(form_of(form), word);
+    u32::from(fmt)
+}
+
+// The number of the kind of the Thumb words with a top byte.
+#[unsafe(no_mangle)]
+pub extern "C" fn silk_kind_thumb_top(form: u32, top: u8) -> u32
+    ensures { result ≡ thumb_number (top_kind (form_of form) top) }
+{
+    let fmt = top_kind(form_of(form), top);
     u32::from(fmt)
 }
 

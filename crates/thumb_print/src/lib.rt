@@ -11,8 +11,9 @@ use arm7tdmi::Form;
 use lines::{Line, print_line};
 use refusal::Refusal;
 use text::put::Writer;
-use thumb::{ThumbFormat, thumb_format};
+use thumb::ThumbFormat;
 use thumb_disass::put_line;
+use thumb_top::word_kind;
 
 // The line of a word of a kind at an address, as `arm_print` has one of ARM's.
 #[derive(Clone, Copy, Debug, PartialEq, Eq)]
@@ -38,7 +39,7 @@ impl Line for ThumbLine {
 pub fn print_thumb(form: Form, raw: u16, pc: u32, buf: &mut [u8]) -> Result<usize, Refusal>
     ensures { printed (thumb_line form pc raw) buf.old ≡ (result, buf.new) }
 {
-    let fmt = thumb_format(form, raw);
+    let fmt = word_kind(form, raw);
     let raw = u32::from(raw);
     print_line(&ThumbLine { form, fmt, pc, raw }, buf)
 }

@@ -153,6 +153,12 @@ fn thumb_operations(order: &str, list: &[(u16, u32)]) {
             |word, _| _ = black_box(silk::kind_thumb(form, word)),
             |word, _| _ = black_box(ThumbFormat::from(word)),
         );
+        operation(
+            &format!("kind by top byte | Thumb, {order} | {name}"),
+            list,
+            |word, _| _ = black_box(silk::kind_thumb_top(form, (word >> 8) as u8)),
+            |word, _| _ = black_box(ThumbFormat::from(word)),
+        );
     }
 }
 

@@ -1,9 +1,9 @@
-//! Compares the library's bench lines, refusals and bench kinds with the
-//! published Rust. `compare [--words N]` takes all Thumb halfwords at many
-//! addresses, the corners of the ARM mask table, and N random ARM words (20
-//! million if not given), and with these the lines of all call pairs;
-//! `compare --long ADDRESS` takes all ARM words at one address, in hexadecimal.
-//! Ends with a summary line, and fails if there is a difference.
+//! Compares the library's bench lines, refusals and bench kinds (of Thumb words
+//! also by their top byte) with the published Rust. `compare [--words N]` takes
+//! all Thumb halfwords at many addresses, the corners of the ARM mask table, and
+//! N random ARM words (20 million if not given), and with these the lines of all
+//! call pairs; `compare --long ADDRESS` takes all ARM words at one address, in
+//! hexadecimal. Ends with a summary line, and fails if there is a difference.
 
 use std::env;
 use std::ops::AddAssign;
@@ -126,14 +126,17 @@ impl Tally {
     fn visit(&mut self, row: Row, line: &mut String) {
         self.words += 1;
         let mut buffer = [GUARD; 128];
-        let (kind, rust_kind, (number, length)) = match row.word {
+        let (kinds, rust_kind, (number, length)) = match row.word {
             Word::Arm(word) => (
-                silk::kind_arm(silk::BENCH, word),
+                [silk::kind_arm(silk::BENCH, word); 2],
                 ArmFormat::from(word) as u32,
                 silk::print_arm(silk::BENCH, word, row.address, &mut buffer),
             ),
             Word::Thumb(word) => (
-                silk::kind_thumb(silk::BENCH, word),
+                [
+                    silk::kind_thumb(silk::BENCH, word),
+                    silk::kind_thumb_top(silk::BENCH, (word >> 8) as u8),
+                ],
                 ThumbFormat::from(word) as u32,
                 silk::print_thumb(silk::BENCH, word, row.address, &mut buffer),
             ),
@@ -147,7 +150,7 @@ impl Tally {
             Ok((2, _)) => self.refusals_2 += 1,
             _ => {}
         }
-        let same = kind == rust_kind
+        let same = kinds == [rust_kind; 2]
             && rust.as_ref().is_ok_and(|answer| answer.0 == number)
             && length == line.len()
             && buffer.starts_with(line.as_bytes())
@@ -158,7 +161,7 @@ impl Tally {
                 let last = buffer.iter().rposition(|&byte| byte != GUARD);
                 let written = buffer[..last.map_or(0, |last| last + 1)].escape_ascii();
                 self.shown.push(format!(
-                    "{row:x?}: kind {kind}, number {number}, length {length}, bytes \"{written}\"; \
+                    "{row:x?}: kinds {kinds:?}, number {number}, length {length}, bytes \"{written}\"; \
                      the Rust: kind {rust_kind}, {rust:?}, line {line:?}"
                 ));
             }

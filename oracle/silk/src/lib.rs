@@ -5,6 +5,7 @@ mod c {
     unsafe extern "C" {
         pub safe fn silk_kind_arm(form: u32, word: u32) -> u32;
         pub safe fn silk_kind_thumb(form: u32, word: u16) -> u32;
+        pub safe fn silk_kind_thumb_top(form: u32, top: u8) -> u32;
         pub fn silk_print_arm(
             form: u32,
             word: u32,
@@ -77,7 +78,9 @@ mod c {
     }
 }
 
-pub use c::{silk_kind_arm as kind_arm, silk_kind_thumb as kind_thumb};
+pub use c::{
+    silk_kind_arm as kind_arm, silk_kind_thumb as kind_thumb, silk_kind_thumb_top as kind_thumb_top,
+};
 
 pub const BENCH: u32 = 0;
 pub const SHEET: u32 = 1;
