@@ -43,7 +43,7 @@ static const struct row {
     { THUMB, 0x4480, 0, LINE("add\tr0, r0"), LINE("add\tr8, r0") },
     { THUMB, 0xc808, 0, LINE("ldm\tr1!, {r3}"), LINE("ldm\tr0!, {r3}") },
     { THUMB, 0xb0ff, 0, LINE("add\tsp, #fffffe04"), LINE("add\tsp, #-0x1fc") },
-    /* The row program's example. */
+    /* The words of the row program's example. */
     { THUMB, 0xde00, 0x100, LINE("b\t0x104"), LINE("<Undefined>") },
     { ARM, 0xf0000000, 0, REFUSAL(1), REFUSAL(1) },
     /* The shortest bench line and the longest line, of 5 and 80 bytes. */

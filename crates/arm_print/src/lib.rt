@@ -76,13 +76,13 @@ fn is_test_opcode(opcode: u32) -> bool
     matches!(opcode, 0b1000..=0b1011)
 }
 
-// S11: whether a word is a test whose S is clear, on the sheet.
+// S11: whether a word is a test whose S is clear, on the sheet. By `&`, since a jump on a random word's opcode is guessed wrong.
 fn lacks_flags(form: Form, fmt: ArmFormat, raw: u32) -> bool
     ensures { result ≡ lacks_flags form fmt raw }
 {
     matches!((fmt, form), (ArmFormat::DataProcessing, Form::Sheet))
-        && is_test_opcode(bit_range(raw, 21, 25))
-        && !bit(raw, 20)
+        & is_test_opcode(bit_range(raw, 21, 25))
+        & !bit(raw, 20)
 }
 
 // Refusal 1, 2 or 9, in this order, or the line.

@@ -6,17 +6,20 @@ use lib.ListN.{drop, drop_of_length-le, get_or, length, length-append, length-dr
 use lib.Seq.{drop-cons, drop-drop, take_at}
 use mathlib.Core.Bool.{Bool, ◌&&◌, cond, false, true}
 use mathlib.Core.List.{List, [], ◌++◌, ◌∷◌, append_assoc, append-nil}
-use mathlib.Core.Path.{◌≡◌, ap, sym}
+use mathlib.Core.Path.{◌≡◌, ap, refl, sym}
 use native.Mathlib.Nat.{add-suc, mod-eq_of_lt, pow-le-pow_right, pow-suc, suc-add, zero-add}
 use native.Mathlib.Numerals.{add-one}
 use native.Mathlib.Omega.{arith}
 use Rattle.lines.specs.Answer.{Answer, refused, line, given, printed}
 use Rattle.lines.proofs.Whole.{Whole, apart}
-use Rattle.arm7tdmi.specs.declared.Form.TheVariants.{Bench}
+use Rattle.arm7tdmi.specs.declared.Form.{Form}
+use Rattle.arm7tdmi.specs.declared.Form.TheVariants.{Bench, Sheet}
 use Rattle.arm_print.proofs.Whole.{arm_whole}
 use Rattle.common.proofs.Tests.{and_left, and_right, by_test}
 use Rattle.common.proofs.Lists.{part_rest}
-use Rattle.row.specs.Row.{address_digits, answer_text, fields_of, hex_number, is_hex, is_row, word_digits, word_line}
+use Rattle.arm_print.specs.Print.{arm_line}
+use Rattle.thumb_print.specs.Print.{thumb_line}
+use Rattle.row.specs.Row.{address_digits, answer_text, arm_letter, fields_of, hex_number, is_hex, is_row, row_answer, row_form, thumb_letter, word_digits, word_line}
 use Rattle.row.specs.declared.Word.{Word}
 use Rattle.row.specs.declared.Word.TheVariants.{Arm, Thumb}
 use Rattle.text.specs.Digits.{dec, digit_value, value, value_from}
@@ -191,13 +194,13 @@ word_hex letter n l e =
     let e3 = and_right u (t && (b && w)) e2 in
     and_right b w (and_right t (b && w) e3)
 
-pub word_small : (l : List ℕ) → is_row 116 4 l ≡ true → value 16 (word_digits 4 l) % 65536 ≡ value 16 (word_digits 4 l)
-word_small l e = mod-eq_of_lt (four_small (word_digits 4 l) (simp length-take (omega arith)) (word_hex 116 4 l e))
+pub word_small : (letter : ℕ) (l : List ℕ) → is_row letter 4 l ≡ true → value 16 (word_digits 4 l) % 65536 ≡ value 16 (word_digits 4 l)
+word_small letter l e = mod-eq_of_lt (four_small (word_digits 4 l) (simp length-take (omega arith)) (word_hex letter 4 l e))
 
-pub word_whole : (address : ℕ) (word : Word) → Whole (word_line address word)
+pub word_whole : (form : Form) (address : ℕ) (word : Word) → Whole (word_line form address word)
 unfolding word_line
-word_whole address (Arm w) = arm_whole Bench address w
-word_whole address (Thumb w) = thumb_whole Bench address w
+word_whole form address (Arm w) = arm_whole form address w
+word_whole form address (Thumb w) = thumb_whole form address w
 
 -- what the fields of a row say of it
 module _ (letter n : ℕ) (l : List ℕ) where
@@ -216,3 +219,29 @@ module _ (letter n : ℕ) (l : List ℕ) where
       by_test (is_row letter n l)
       (λ t. let q : None ≡ Some (value 16 (address_digits l), value 16 (word_digits n l)) = rw t at e in cc)
       (λ t. t)
+
+-- ---- a row of a form is answered in that form
+row_letter : (letter n : ℕ) (l : List ℕ) → is_row letter n l ≡ true → get_or l 0 0 ≡ letter
+unfolding is_row
+row_letter letter n l e =
+    let v = eqb (get_or l 0 0) letter in
+    let rest = eqb (get_or l 1 0) 32 && (eqb (get_or l 10 0) 32 && (is_hex (address_digits l) && is_hex (word_digits n l))) in
+    eqb-true (get_or l 0 0) letter (and_left v rest (and_right (eqb (length l) (11 + n)) (v && rest) e))
+
+-- for letters that are small just for the sheet
+letter_form : (letters : Form → ℕ) → ltb (letters Bench) 97 ≡ true → ltb (letters Sheet) 97 ≡ false → (form : Form) (l : List ℕ) → get_or l 0 0 ≡ letters form → row_form l ≡ form
+unfolding row_form
+letter_form letters b s Bench l e = rw (e, b)
+letter_form letters b s Sheet l e = rw (e, s)
+
+other_length : (letter other : ℕ) (l : List ℕ) → is_row letter 4 l ≡ true → is_row other 8 l ≡ false
+unfolding is_row
+other_length letter other l e = rw (row_length letter 4 l e)
+
+pub arm_row : (form : Form) (l : List ℕ) → is_row (arm_letter form) 8 l ≡ true → row_answer l ≡ answer_text (arm_line form (value 16 (address_digits l)) (value 16 (word_digits 8 l)))
+unfolding row_answer arm_letter
+arm_row form l e = rw (letter_form arm_letter refl refl form l (row_letter (arm_letter form) 8 l e), e)
+
+pub thumb_row : (form : Form) (l : List ℕ) → is_row (thumb_letter form) 4 l ≡ true → row_answer l ≡ answer_text (thumb_line form (value 16 (address_digits l)) (value 16 (word_digits 4 l)))
+unfolding row_answer thumb_letter
+thumb_row form l e = rw (letter_form thumb_letter refl refl form l (row_letter (thumb_letter form) 4 l e), other_length (thumb_letter form) (arm_letter form) l e, e)

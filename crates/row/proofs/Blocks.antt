@@ -8,14 +8,13 @@ use mathlib.Core.List.{List, [], ◌++◌, ◌∷◌, append_assoc, append-nil, 
 use mathlib.Core.Path.{◌≡◌, ◌∙◌, ap, refl, sym}
 use native.Mathlib.Numerals.{add-one}
 use native.Mathlib.Omega.{arith}
-use Rattle.arm7tdmi.specs.declared.Form.TheVariants.{Bench}
 use Rattle.arm_print.specs.Print.{arm_line}
 use Rattle.common.proofs.Tests.{by_test}
 use Rattle.arm_print.proofs.Whole.{arm_whole}
 use Rattle.thumb_print.proofs.Lengths.{thumb_whole}
 use Rattle.row.proofs.Answers.{answer_short, row_length}
 use Rattle.row.specs.Block.{Ended, NoEnd, all_answers, answer_line, answers, at_start, blockwise, held_of, is_end, last_answer, unfinished}
-use Rattle.row.specs.Row.{address_digits, is_row, row_answer, word_digits}
+use Rattle.row.specs.Row.{address_digits, arm_letter, is_row, row_answer, row_form, thumb_letter, word_digits}
 use Rattle.text.specs.Digits.{value}
 use Rattle.text.specs.Text.{text}
 use Rattle.text.specs.Wrote.{Wrote}
@@ -174,13 +173,14 @@ cut_anywhere bs = from_held [] bs
 row_room : (l : List ℕ) → length (row_answer l) < 6 * (length l + 1)
 unfolding row_answer
 row_room l =
+    let form = row_form l in
     let pc = value 16 (address_digits l) in
-    let a = arm_line Bench pc (value 16 (word_digits 8 l)) in
-    let t = thumb_line Bench pc (value 16 (word_digits 4 l)) in
-    by_test (is_row 97 8 l)
-    (λ e. let n = row_length 97 8 l e in rw e (let s = answer_short a (arm_whole Bench pc (value 16 (word_digits 8 l))) in omega arith))
-    (λ e. by_test (is_row 116 4 l)
-    (λ d. let n = row_length 116 4 l d in rw (e, d) (let s = answer_short t (thumb_whole Bench pc (value 16 (word_digits 4 l))) in omega arith))
+    let a = arm_line form pc (value 16 (word_digits 8 l)) in
+    let t = thumb_line form pc (value 16 (word_digits 4 l)) in
+    by_test (is_row (arm_letter form) 8 l)
+    (λ e. let n = row_length (arm_letter form) 8 l e in rw e (let s = answer_short a (arm_whole form pc (value 16 (word_digits 8 l))) in omega arith))
+    (λ e. by_test (is_row (thumb_letter form) 4 l)
+    (λ d. let n = row_length (thumb_letter form) 4 l d in rw (e, d) (let s = answer_short t (thumb_whole form pc (value 16 (word_digits 4 l))) in omega arith))
     (λ d. rw (e, d) (omega arith)))
 
 pub answers_room : (b l : List ℕ) → length (answers b l) ≤ 6 * (length b + length l)

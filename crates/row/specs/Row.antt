@@ -5,13 +5,14 @@ use Rattle.text.specs.Digits.{dec, digit_value, value}
 use Rattle.text.specs.Word.{all}
 use Rattle.refusal.specs.Refusal.{number}
 use Rattle.lines.specs.Answer.{Answer, refused, line}
-use Rattle.arm7tdmi.specs.declared.Form.TheVariants.{Bench}
+use Rattle.arm7tdmi.specs.declared.Form.{Form}
+use Rattle.arm7tdmi.specs.declared.Form.TheVariants.{Bench, Sheet}
 use Rattle.arm_print.specs.Print.{arm_line}
 use Rattle.thumb_print.specs.Print.{thumb_line}
 use Rattle.row.specs.declared.Word.{Word}
 use Rattle.row.specs.declared.Word.TheVariants.{Arm, Thumb}
 
--- "the bench line, or `!` and the refusal number"
+-- a line, "or `!` and the refusal number"
 unfoldable pub answer_text : Answer → List ℕ
 answer_text (refused r) = text "!" ++ dec (number r)
 answer_text (line bs) = bs
@@ -20,7 +21,7 @@ answer_text (line bs) = bs
 unfoldable pub is_hex : List ℕ → Bool
 is_hex l = all (λ x. ltb (digit_value x) 16) l
 
--- "each row is `a` or `t`, a space, eight lowercase hex digits of address, a space, eight (a) or four (t) digits of word"
+-- "each row is `a` or `t`, a space, eight lowercase hex digits of address, a space, eight (a) or four (t) digits of word"; `A` as `a`, `T` as `t`
 abbrev pub address_digits : List ℕ → List ℕ
 address_digits l = take 8 (drop 2 l)
 
@@ -31,11 +32,25 @@ unfoldable pub is_row : ℕ → ℕ → List ℕ → Bool
 is_row letter n l =
     eqb (length l) (11 + n) && (eqb (get_or l 0 0) letter && (eqb (get_or l 1 0) 32 && (eqb (get_or l 10 0) 32 && (is_hex (address_digits l) && is_hex (word_digits n l)))))
 
--- `a` is byte 97, `t` byte 116; "or `!0` for any other row"
+-- "`a` and `t` print sheet lines", "`A` and `T` print bench lines": the form by the letter, small (byte 97 and above) or a capital
+unfoldable pub row_form : List ℕ → Form
+row_form l = cond (ltb (get_or l 0 0) 97) Bench Sheet
+
+-- and the letters of a form's rows in each set: `a` is byte 97, `A` 65, `t` 116, `T` 84
+unfoldable pub arm_letter : Form → ℕ
+arm_letter Sheet = 97
+arm_letter Bench = 65
+
+unfoldable pub thumb_letter : Form → ℕ
+thumb_letter Sheet = 116
+thumb_letter Bench = 84
+
+-- "or `!0` for any other row"
 unfoldable pub row_answer : List ℕ → List ℕ
 row_answer l =
-    cond (is_row 97 8 l) (answer_text (arm_line Bench (value 16 (address_digits l)) (value 16 (word_digits 8 l))))
-    (cond (is_row 116 4 l) (answer_text (thumb_line Bench (value 16 (address_digits l)) (value 16 (word_digits 4 l)))) (text "!0"))
+    let form = row_form l in
+    cond (is_row (arm_letter form) 8 l) (answer_text (arm_line form (value 16 (address_digits l)) (value 16 (word_digits 8 l))))
+    (cond (is_row (thumb_letter form) 4 l) (answer_text (thumb_line form (value 16 (address_digits l)) (value 16 (word_digits 4 l)))) (text "!0"))
 
 -- ---- for the contracts of inner functions
 -- the number that digits write, and none where a byte is no digit
@@ -47,6 +62,6 @@ unfoldable pub fields_of : ℕ → ℕ → List ℕ → Option (ℕ × ℕ)
 fields_of letter n l = cond (is_row letter n l) (Some (value 16 (address_digits l), value 16 (word_digits n l))) None
 
 -- what is printed for a word of either set
-unfoldable pub word_line : ℕ → Word → Answer
-word_line address (Arm w) = arm_line Bench address w
-word_line address (Thumb w) = thumb_line Bench address w
+unfoldable pub word_line : Form → ℕ → Word → Answer
+word_line form address (Arm w) = arm_line form address w
+word_line form address (Thumb w) = thumb_line form address w

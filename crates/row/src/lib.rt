@@ -7,7 +7,7 @@ ghost use Rattle.text.specs.Digits.{dec};
 ghost use Rattle.text.specs.Puts.{puts};
 ghost use Rattle.refusal.specs.Refusal.{number};
 ghost use Rattle.lines.specs.Answer.{printed};
-ghost use Rattle.row.specs.Row.{answer_text, hex_number, fields_of, word_line, row_answer};
+ghost use Rattle.row.specs.Row.{answer_text, arm_letter, fields_of, hex_number, row_answer, row_form, thumb_letter, word_line};
 
 use arm_print::print_arm;
 use arm7tdmi::Form;
@@ -26,8 +26,9 @@ enum Word {
     Thumb(u16),
 }
 
-// The number, modulo 2^32, that hexadecimal digits write.
+// The number, modulo 2^32, that hexadecimal digits write. With it and `fields_of` in their caller, the digits of each set are no loop.
 #[tactic(auto, using(crate::proofs::Answers::number_step, crate::proofs::Answers::number_break, crate::proofs::Answers::number_out), unfolding(crate::specs::Row::hex_number))]
+#[inline(always)]
 fn hex_number(s: &[u8]) -> Option<u32>
     ensures { result ≡ hex_number s.now }
 {
@@ -42,8 +43,9 @@ fn hex_number(s: &[u8]) -> Option<u32>
     Some(v as u32)
 }
 
-// The address and the number of the word of a row of a set, whose words have n digits.
+// The address and the number of the word of a row with a letter, whose word has n digits.
 #[tactic(auto, using(crate::proofs::Answers::number_hex, crate::proofs::Answers::number_none), unfolding(crate::specs::Row::fields_of, crate::specs::Row::is_row))]
+#[inline(always)]
 fn fields_of(s: &[u8], letter: u8, n: u8) -> Option<(u32, u32)>
     ensures { result ≡ fields_of letter n s.now }
 {
@@ -55,14 +57,48 @@ fn fields_of(s: &[u8], letter: u8, n: u8) -> Option<(u32, u32)>
     Some((address, word))
 }
 
+// The form that a row's letter names: a small one the sheet, a capital the bench.
+#[tactic(auto, unfolding(crate::specs::Row::row_form))]
+fn row_form(row: &[u8]) -> Form
+    ensures { result ≡ row_form row.now }
+{
+    if row.is_empty() || row[0] < b'a' {
+        Form::Bench
+    } else {
+        Form::Sheet
+    }
+}
+
+// The letter of a form's ARM rows.
+#[tactic(auto, unfolding(crate::specs::Row::arm_letter))]
+fn arm_letter(form: Form) -> u8
+    ensures { result ≡ arm_letter form }
+{
+    match form {
+        Form::Sheet => b'a',
+        Form::Bench => b'A',
+    }
+}
+
+// The letter of a form's Thumb rows.
+#[tactic(auto, unfolding(crate::specs::Row::thumb_letter))]
+fn thumb_letter(form: Form) -> u8
+    ensures { result ≡ thumb_letter form }
+{
+    match form {
+        Form::Sheet => b't',
+        Form::Bench => b'T',
+    }
+}
+
 // Prints a word of either set.
 #[tactic(auto, unfolding(crate::specs::Row::word_line))]
-fn print_word(address: u32, word: Word, buf: &mut [u8]) -> Result<usize, Refusal>
-    ensures { printed (word_line address word) buf.old ≡ (result, buf.new) }
+fn print_word(form: Form, address: u32, word: Word, buf: &mut [u8]) -> Result<usize, Refusal>
+    ensures { printed (word_line form address word) buf.old ≡ (result, buf.new) }
 {
     match word {
-        Word::Arm(w) => print_arm(Form::Bench, w, address, buf),
-        Word::Thumb(w) => print_thumb(Form::Bench, w, address, buf),
+        Word::Arm(w) => print_arm(form, w, address, buf),
+        Word::Thumb(w) => print_thumb(form, w, address, buf),
     }
 }
 
@@ -75,17 +111,17 @@ fn put_refusal(out: &mut Writer<'_>, refusal: Refusal)
 }
 
 // The answer for a word: straight into the output where any line fits, else by way of a copy.
-fn put_word(out: &mut Writer<'_>, address: u32, word: Word)
-    ensures { out.new ≡ puts out.old (answer_text (word_line address word)) }
+fn put_word(out: &mut Writer<'_>, form: Form, address: u32, word: Word)
+    ensures { out.new ≡ puts out.old (answer_text (word_line form address word)) }
 {
     if has_room(out.bytes.len(), out.at, LINE) {
-        return match print_word(address, word, &mut out.bytes[out.at..]) {
+        return match print_word(form, address, word, &mut out.bytes[out.at..]) {
             Ok(n) => out.at += n,
             Err(refusal) => put_refusal(out, refusal),
         };
     }
     let mut line = [0u8; LINE];
-    match print_word(address, word, &mut line) {
+    match print_word(form, address, word, &mut line) {
         Ok(n) => out.put_text(&line[..n]),
         Err(refusal) => put_refusal(out, refusal),
     }
@@ -96,11 +132,12 @@ fn put_word(out: &mut Writer<'_>, address: u32, word: Word)
 pub fn answer_row(row: &[u8], out: &mut Writer<'_>)
     ensures { out.new ≡ puts out.old (row_answer row.now) }
 {
-    if let Some((address, word)) = fields_of(row, b'a', 8) {
-        return put_word(out, address, Word::Arm(word));
+    let form = row_form(row);
+    if let Some((address, word)) = fields_of(row, arm_letter(form), 8) {
+        return put_word(out, form, address, Word::Arm(word));
     }
-    if let Some((address, word)) = fields_of(row, b't', 4) {
-        return put_word(out, address, Word::Thumb((word % 65536) as u16));
+    if let Some((address, word)) = fields_of(row, thumb_letter(form), 4) {
+        return put_word(out, form, address, Word::Thumb((word % 65536) as u16));
     }
     out.put_text(b"!0");
 }

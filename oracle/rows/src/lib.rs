@@ -1,6 +1,7 @@
 //! The row program over the published Rust: a row names a set, an address and
 //! a word, and the answer is the bench line that the Rust's Display writes, or
-//! a refusal where it panics.
+//! a refusal where it panics. Bench rows begin with `A` or `T`. The Rust has no
+//! sheet lines, so rows that begin with `a` or `t` are no rows here.
 
 use std::any::Any;
 use std::fmt::Write as _;
@@ -41,7 +42,7 @@ fn hexadecimal(digits: &[u8]) -> Option<u32> {
 /// Reads a row, given without its line end.
 pub fn parse(row: &[u8]) -> Option<Row> {
     let digits = match (row.first(), row.len()) {
-        (Some(b'a'), 19) | (Some(b't'), 15) => &row[11..],
+        (Some(b'A'), 19) | (Some(b'T'), 15) => &row[11..],
         _ => return None,
     };
     if row[1] != b' ' || row[10] != b' ' {
@@ -50,7 +51,7 @@ pub fn parse(row: &[u8]) -> Option<Row> {
     let address = hexadecimal(&row[2..10])?;
     let number = hexadecimal(digits)?;
     let word = match row[0] {
-        b'a' => Word::Arm(number),
+        b'A' => Word::Arm(number),
         _ => Word::Thumb(number as u16),
     };
     Some(Row { address, word })

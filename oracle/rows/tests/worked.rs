@@ -25,45 +25,52 @@ fn prints(row: &str, line: &str) {
 
 #[test]
 fn worked_lines() {
-    prints("a 00000000 e0821003", "add\tr2, r2, r3");
+    prints("A 00000000 e0821003", "add\tr2, r2, r3");
     prints(
-        "a 00000000 e5110004",
+        "A 00000000 e5110004",
         "ldr\tr0, [r1, #4294967292]\t; 0xfffffffc",
     );
-    prints("a 00000000 e7910002", "<Undefined>");
-    prints("a 00000100 e59f0004", "ldr\tr0, [pc, #4]\t; 0x10c");
-    prints("a 00000100 eafffffe", "b\t0x100");
-    prints("a 00000000 f12fff10", "bx\tr0");
-    prints("a 00000000 e1800090", "!2");
-    prints("a 00000000 f1800090", "!1");
-    prints("t 00000000 4480", "add\tr0, r0");
-    prints("t 00000000 c808", "ldm\tr1!, {r3}");
-    prints("t 00000000 b0ff", "add\tsp, #fffffe04");
+    prints("A 00000000 e7910002", "<Undefined>");
+    prints("A 00000100 e59f0004", "ldr\tr0, [pc, #4]\t; 0x10c");
+    prints("A 00000100 eafffffe", "b\t0x100");
+    prints("A 00000000 f12fff10", "bx\tr0");
+    prints("A 00000000 e1800090", "!2");
+    prints("A 00000000 f1800090", "!1");
+    prints("T 00000000 4480", "add\tr0, r0");
+    prints("T 00000000 c808", "ldm\tr1!, {r3}");
+    prints("T 00000000 b0ff", "add\tsp, #fffffe04");
 }
 
 /// The worked rows that give a line to be read name the word that prints it.
 #[test]
 fn worked_words_read() {
-    prints("a 00000000 e11f0000", "tst\tpc, r0");
-    prints("a 00000000 e3a00c01", "mov\tr0, #256\t; 0x100");
-    prints("a 00000000 e5110000", "ldr\tr0, [r1, #0]\t; 0x0");
-    prints("a 00000000 06000000", "<Undefined>");
-    prints("t 00000100 de00", "b\t0x104");
-    prints("t 00000000 4280", "cmp\tr0, r0");
-    prints("t 00000000 f000", "bl\t#0x00000000");
+    prints("A 00000000 e11f0000", "tst\tpc, r0");
+    prints("A 00000000 e3a00c01", "mov\tr0, #256\t; 0x100");
+    prints("A 00000000 e5110000", "ldr\tr0, [r1, #0]\t; 0x0");
+    prints("A 00000000 06000000", "<Undefined>");
+    prints("T 00000100 de00", "b\t0x104");
+    prints("T 00000000 4280", "cmp\tr0, r0");
+    prints("T 00000000 f000", "bl\t#0x00000000");
 }
 
 #[test]
 fn traps() {
-    prints("a 00000000 e10f0000", "mrs\tr0, CPSR");
-    prints("a 00000000 e3a00f01", "mov\tr0, #4\t; 0x4");
-    prints("a 00000000 e3a00004", "mov\tr0, #4\t; 0x4");
+    prints("A 00000000 e10f0000", "mrs\tr0, CPSR");
+    prints("A 00000000 e3a00f01", "mov\tr0, #4\t; 0x4");
+    prints("A 00000000 e3a00004", "mov\tr0, #4\t; 0x4");
 }
 
 #[test]
 fn example() {
-    let rows = b"a 00000100 eafffffe\nt 00000100 de00\na 00000000 f0000000\n";
+    let rows = b"A 00000100 eafffffe\nT 00000100 de00\nA 00000000 f0000000\n";
     assert_eq!(run(rows), b"b\t0x100\nb\t0x104\n!1\n");
+}
+
+/// The Rust has no sheet lines, so the letters of sheet rows are none here.
+#[test]
+fn sheet_rows() {
+    let rows = b"a 00000100 eafffffe\nt 00000100 de00\na 00000000 f0000000\n";
+    assert_eq!(run(rows), b"!0\n!0\n!0\n");
 }
 
 #[test]
@@ -71,31 +78,30 @@ fn line_ends() {
     assert_eq!(run(b""), b"");
     assert_eq!(run(b"\n"), b"!0\n");
     assert_eq!(run(b"\n\n"), b"!0\n!0\n");
-    assert_eq!(run(b"t 00000000 4700"), b"bx\tr0\n");
-    assert_eq!(run(b"t 00000000 4700\n"), b"bx\tr0\n");
-    assert_eq!(run(b"t 00000000 4700\n\n"), b"bx\tr0\n!0\n");
-    assert_eq!(run(b"t 00000000 4700\r\nt 00000000 4700"), b"!0\nbx\tr0\n");
+    assert_eq!(run(b"T 00000000 4700"), b"bx\tr0\n");
+    assert_eq!(run(b"T 00000000 4700\n"), b"bx\tr0\n");
+    assert_eq!(run(b"T 00000000 4700\n\n"), b"bx\tr0\n!0\n");
+    assert_eq!(run(b"T 00000000 4700\r\nT 00000000 4700"), b"!0\nbx\tr0\n");
 }
 
 #[test]
 fn other_rows() {
     for row in [
-        "a",
-        "a 00000000 e082100",
-        "a 00000000 e08210030",
-        "a 00000000 E0821003",
-        "a 0000000G e0821003",
-        "A 00000000 e0821003",
-        "a  0000000 e0821003",
-        "a 00000000\te0821003",
-        "b 00000000 e0821003",
-        "a 00000000 4700",
-        "t 00000000 e0821003",
-        " t 00000000 4700",
-        "t 00000000 4700 ",
+        "A",
+        "A 00000000 e082100",
+        "A 00000000 e08210030",
+        "A 00000000 E0821003",
+        "A 0000000G e0821003",
+        "A  0000000 e0821003",
+        "A 00000000\te0821003",
+        "B 00000000 e0821003",
+        "A 00000000 4700",
+        "T 00000000 e0821003",
+        " T 00000000 4700",
+        "T 00000000 4700 ",
     ] {
         prints(row, "!0");
     }
-    assert_eq!(run(b"a 00000000 e08210\xc3\xa9"), b"!0\n");
-    assert_eq!(run(&[b'a'; 5000]), b"!0\n");
+    assert_eq!(run(b"A 00000000 e08210\xc3\xa9"), b"!0\n");
+    assert_eq!(run(&[b'A'; 5000]), b"!0\n");
 }

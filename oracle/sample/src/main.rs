@@ -1,6 +1,7 @@
-//! Writes the sample to standard output: a fixed list of rows for the row
-//! program that reaches every mask, field, habit and refusal, and rows that
-//! are no rows. The last row has no line end.
+//! Writes the bench rows of the sample to standard output: a fixed list of rows
+//! for the row program that reaches every mask, field, habit and refusal of the
+//! bench, and rows that are no rows in either form. The last row has no line
+//! end.
 
 use std::collections::HashSet;
 use std::io::{self, Write};
@@ -115,11 +116,11 @@ impl Sample {
     }
 
     fn arm_at(&mut self, address: u32, word: u32) {
-        self.row(format!("a {address:08x} {word:08x}"));
+        self.row(format!("A {address:08x} {word:08x}"));
     }
 
     fn thumb_at(&mut self, address: u32, word: u16) {
-        self.row(format!("t {address:08x} {word:04x}"));
+        self.row(format!("T {address:08x} {word:04x}"));
     }
 
     fn arm(&mut self, word: u32) {
@@ -361,9 +362,14 @@ impl Sample {
         }
     }
 
-    /// Rows that are no rows.
+    /// Rows that are no rows, in either form.
     fn malformed(&mut self) {
-        let good: [&[u8]; 2] = [b"a 00000100 eafffffe", b"t 00000100 de00"];
+        let good: [&[u8]; 4] = [
+            b"A 00000100 eafffffe",
+            b"T 00000100 de00",
+            b"a 00000100 eafffffe",
+            b"t 00000100 de00",
+        ];
         let mut bad_bytes = BAD_BYTES.iter().cycle();
         for row in good {
             for place in 0..row.len() {
@@ -378,7 +384,7 @@ impl Sample {
             for end in [" ", "\t", "\r", "\0", "0", "\u{e9}", " ; b"] {
                 self.raw(&[row, end.as_bytes()].concat());
             }
-            for start in [" ", "\r", "\u{feff}", "a"] {
+            for start in [" ", "\r", "\u{feff}", "a", "A"] {
                 self.raw(&[start.as_bytes(), row].concat());
             }
             self.raw(&[row, row].concat());
@@ -391,28 +397,39 @@ impl Sample {
             "",
             "\r",
             " ",
+            "A",
+            "T",
             "a",
             "t",
+            "A ",
             "a ",
+            "B 00000100 eafffffe",
             "b 00000100 eafffffe",
+            "B 00000100 de00",
             "b 00000100 de00",
+            "A 00000100 de00",
             "a 00000100 de00",
+            "T 00000100 eafffffe",
             "t 00000100 eafffffe",
-            "a  00000100 eafffffe",
-            "a 00000100  eafffffe",
-            "a 0000100 eafffffe ",
+            "A  00000100 eafffffe",
+            "A 00000100  eafffffe",
+            "A 0000100 eafffffe ",
+            "A 00000100 Eafffffe",
             "a 00000100 Eafffffe",
+            "A 0000010A eafffffe",
             "a 0000010A eafffffe",
+            "T 00000100 DE00",
             "t 00000100 DE00",
-            "a 0x000100 eafffffe",
-            "a -0000100 eafffffe",
-            "a +0000100 eafffffe",
-            "a,00000100,eafffffe",
-            "a00000100eafffffe",
+            "A 0x000100 eafffffe",
+            "A -0000100 eafffffe",
+            "A +0000100 eafffffe",
+            "A,00000100,eafffffe",
+            "A00000100eafffffe",
             "00000100 eafffffe",
             "b\t0x100",
+            "b\t0x00000100",
             "!1",
-            "t 00000100 de0\u{ff10}",
+            "T 00000100 de0\u{ff10}",
         ] {
             self.raw(row.as_bytes());
         }
