@@ -19,7 +19,7 @@ use Rattle.common.proofs.Tests.{and_left, and_right, by_test}
 use Rattle.common.proofs.Lists.{part_rest}
 use Rattle.arm_print.specs.Print.{arm_line}
 use Rattle.thumb_print.specs.Print.{thumb_line}
-use Rattle.row.specs.Row.{address_digits, answer_text, arm_letter, fields_of, hex_number, is_hex, is_row, row_answer, row_form, thumb_letter, word_digits, word_line}
+use Rattle.row.specs.Row.{address_digits, answer_text, fields_of, hex_number, is_hex, is_row, row_answer, row_form, row_letters, word_digits, word_line}
 use Rattle.row.specs.declared.Word.{Word}
 use Rattle.row.specs.declared.Word.TheVariants.{Arm, Thumb}
 use Rattle.text.specs.Digits.{dec, digit_value, value, value_from}
@@ -229,19 +229,19 @@ row_letter letter n l e =
     eqb-true (get_or l 0 0) letter (and_left v rest (and_right (eqb (length l) (11 + n)) (v && rest) e))
 
 -- for letters that are small just for the sheet
-letter_form : (letters : Form → ℕ) → ltb (letters Bench) 97 ≡ true → ltb (letters Sheet) 97 ≡ false → (form : Form) (l : List ℕ) → get_or l 0 0 ≡ letters form → row_form l ≡ form
+letter_form : (letter : Form → ℕ) → ltb (letter Bench) 97 ≡ true → ltb (letter Sheet) 97 ≡ false → (form : Form) (l : List ℕ) → get_or l 0 0 ≡ letter form → row_form l ≡ form
 unfolding row_form
-letter_form letters b s Bench l e = rw (e, b)
-letter_form letters b s Sheet l e = rw (e, s)
+letter_form letter b s Bench l e = rw (e, b)
+letter_form letter b s Sheet l e = rw (e, s)
 
 other_length : (letter other : ℕ) (l : List ℕ) → is_row letter 4 l ≡ true → is_row other 8 l ≡ false
 unfolding is_row
 other_length letter other l e = rw (row_length letter 4 l e)
 
-pub arm_row : (form : Form) (l : List ℕ) → is_row (arm_letter form) 8 l ≡ true → row_answer l ≡ answer_text (arm_line form (value 16 (address_digits l)) (value 16 (word_digits 8 l)))
-unfolding row_answer arm_letter
-arm_row form l e = rw (letter_form arm_letter refl refl form l (row_letter (arm_letter form) 8 l e), e)
+pub arm_row : (form : Form) (l : List ℕ) → is_row (row_letters form).0 8 l ≡ true → row_answer l ≡ answer_text (arm_line form (value 16 (address_digits l)) (value 16 (word_digits 8 l)))
+unfolding row_answer row_letters
+arm_row form l e = rw (letter_form (λ f. (row_letters f).0) refl refl form l (row_letter (row_letters form).0 8 l e), e)
 
-pub thumb_row : (form : Form) (l : List ℕ) → is_row (thumb_letter form) 4 l ≡ true → row_answer l ≡ answer_text (thumb_line form (value 16 (address_digits l)) (value 16 (word_digits 4 l)))
-unfolding row_answer thumb_letter
-thumb_row form l e = rw (letter_form thumb_letter refl refl form l (row_letter (thumb_letter form) 4 l e), other_length (thumb_letter form) (arm_letter form) l e, e)
+pub thumb_row : (form : Form) (l : List ℕ) → is_row (row_letters form).1 4 l ≡ true → row_answer l ≡ answer_text (thumb_line form (value 16 (address_digits l)) (value 16 (word_digits 4 l)))
+unfolding row_answer row_letters
+thumb_row form l e = rw (letter_form (λ f. (row_letters f).1) refl refl form l (row_letter (row_letters form).1 4 l e), other_length (row_letters form).1 (row_letters form).0 l e, e)

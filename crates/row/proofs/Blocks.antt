@@ -14,7 +14,7 @@ use Rattle.arm_print.proofs.Whole.{arm_whole}
 use Rattle.thumb_print.proofs.Lengths.{thumb_whole}
 use Rattle.row.proofs.Answers.{answer_short, row_length}
 use Rattle.row.specs.Block.{Ended, NoEnd, all_answers, answer_line, answers, at_start, blockwise, held_of, is_end, last_answer, unfinished}
-use Rattle.row.specs.Row.{address_digits, arm_letter, is_row, row_answer, row_form, thumb_letter, word_digits}
+use Rattle.row.specs.Row.{address_digits, is_row, row_answer, row_form, row_letters, word_digits}
 use Rattle.text.specs.Digits.{value}
 use Rattle.text.specs.Text.{text}
 use Rattle.text.specs.Wrote.{Wrote}
@@ -177,10 +177,10 @@ row_room l =
     let pc = value 16 (address_digits l) in
     let a = arm_line form pc (value 16 (word_digits 8 l)) in
     let t = thumb_line form pc (value 16 (word_digits 4 l)) in
-    by_test (is_row (arm_letter form) 8 l)
-    (λ e. let n = row_length (arm_letter form) 8 l e in rw e (let s = answer_short a (arm_whole form pc (value 16 (word_digits 8 l))) in omega arith))
-    (λ e. by_test (is_row (thumb_letter form) 4 l)
-    (λ d. let n = row_length (thumb_letter form) 4 l d in rw (e, d) (let s = answer_short t (thumb_whole form pc (value 16 (word_digits 4 l))) in omega arith))
+    by_test (is_row (row_letters form).0 8 l)
+    (λ e. let n = row_length (row_letters form).0 8 l e in rw e (let s = answer_short a (arm_whole form pc (value 16 (word_digits 8 l))) in omega arith))
+    (λ e. by_test (is_row (row_letters form).1 4 l)
+    (λ d. let n = row_length (row_letters form).1 4 l d in rw (e, d) (let s = answer_short t (thumb_whole form pc (value 16 (word_digits 4 l))) in omega arith))
     (λ d. rw (e, d) (omega arith)))
 
 pub answers_room : (b l : List ℕ) → length (answers b l) ≤ 6 * (length b + length l)

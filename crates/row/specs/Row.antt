@@ -36,21 +36,17 @@ is_row letter n l =
 unfoldable pub row_form : List ℕ → Form
 row_form l = cond (ltb (get_or l 0 0) 97) Bench Sheet
 
--- and the letters of a form's rows in each set: `a` is byte 97, `A` 65, `t` 116, `T` 84
-unfoldable pub arm_letter : Form → ℕ
-arm_letter Sheet = 97
-arm_letter Bench = 65
-
-unfoldable pub thumb_letter : Form → ℕ
-thumb_letter Sheet = 116
-thumb_letter Bench = 84
+-- and the letters of a form's rows, of ARM and of Thumb: `a` is byte 97, `t` 116, `A` 65, `T` 84
+unfoldable pub row_letters : Form → ℕ × ℕ
+row_letters Sheet = (97, 116)
+row_letters Bench = (65, 84)
 
 -- "or `!0` for any other row"
 unfoldable pub row_answer : List ℕ → List ℕ
 row_answer l =
     let form = row_form l in
-    cond (is_row (arm_letter form) 8 l) (answer_text (arm_line form (value 16 (address_digits l)) (value 16 (word_digits 8 l))))
-    (cond (is_row (thumb_letter form) 4 l) (answer_text (thumb_line form (value 16 (address_digits l)) (value 16 (word_digits 4 l)))) (text "!0"))
+    cond (is_row (row_letters form).0 8 l) (answer_text (arm_line form (value 16 (address_digits l)) (value 16 (word_digits 8 l))))
+    (cond (is_row (row_letters form).1 4 l) (answer_text (thumb_line form (value 16 (address_digits l)) (value 16 (word_digits 4 l)))) (text "!0"))
 
 -- ---- for the contracts of inner functions
 -- the number that digits write, and none where a byte is no digit

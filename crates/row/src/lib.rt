@@ -7,7 +7,7 @@ ghost use Rattle.text.specs.Digits.{dec};
 ghost use Rattle.text.specs.Puts.{puts};
 ghost use Rattle.refusal.specs.Refusal.{number};
 ghost use Rattle.lines.specs.Answer.{printed};
-ghost use Rattle.row.specs.Row.{answer_text, arm_letter, fields_of, hex_number, row_answer, row_form, thumb_letter, word_line};
+ghost use Rattle.row.specs.Row.{answer_text, fields_of, hex_number, row_answer, row_form, row_letters, word_line};
 
 use arm_print::print_arm;
 use arm7tdmi::Form;
@@ -69,25 +69,14 @@ fn row_form(row: &[u8]) -> Form
     }
 }
 
-// The letter of a form's ARM rows.
-#[tactic(auto, unfolding(crate::specs::Row::arm_letter))]
-fn arm_letter(form: Form) -> u8
-    ensures { result ≡ arm_letter form }
+// The letters of a form's rows, of ARM and of Thumb.
+#[tactic(auto, unfolding(crate::specs::Row::row_letters))]
+fn row_letters(form: Form) -> (u8, u8)
+    ensures { result ≡ row_letters form }
 {
     match form {
-        Form::Sheet => b'a',
-        Form::Bench => b'A',
-    }
-}
-
-// The letter of a form's Thumb rows.
-#[tactic(auto, unfolding(crate::specs::Row::thumb_letter))]
-fn thumb_letter(form: Form) -> u8
-    ensures { result ≡ thumb_letter form }
-{
-    match form {
-        Form::Sheet => b't',
-        Form::Bench => b'T',
+        Form::Sheet => (b'a', b't'),
+        Form::Bench => (b'A', b'T'),
     }
 }
 
@@ -133,10 +122,11 @@ pub fn answer_row(row: &[u8], out: &mut Writer<'_>)
     ensures { out.new ≡ puts out.old (row_answer row.now) }
 {
     let form = row_form(row);
-    if let Some((address, word)) = fields_of(row, arm_letter(form), 8) {
+    let (arm, thumb) = row_letters(form);
+    if let Some((address, word)) = fields_of(row, arm, 8) {
         return put_word(out, form, address, Word::Arm(word));
     }
-    if let Some((address, word)) = fields_of(row, thumb_letter(form), 4) {
+    if let Some((address, word)) = fields_of(row, thumb, 4) {
         return put_word(out, form, address, Word::Thumb((word % 65536) as u16));
     }
     out.put_text(b"!0");

@@ -246,9 +246,9 @@ fn run(program: &str, rows: &Path) {
     assert!(status.success(), "{program}: {status}");
 }
 
-/// Measures the row programs over some rows and prints their rows of the table.
-/// `text` has them as bench rows, with which the Rust stands beside the same
-/// words as sheet rows, too: it has no lines for those.
+/// Measures the row programs over some bench rows, and ours over the same words
+/// as sheet rows beside the Rust's bench rows, as it has no sheet lines. Prints
+/// their rows of the table.
 fn row_programs(set: &str, text: String, ours: &str, rust: &str) -> io::Result<()> {
     let bench = env::current_exe()?.with_extension("bench-rows");
     let sheet = bench.with_extension("sheet-rows");
