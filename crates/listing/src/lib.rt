@@ -1,4 +1,4 @@
-// The listing of an image, step by step: a struct that holds the lent image and the place that the listing has come to.
+// The listing of an image, step by step: a struct that holds the lent image and the place that the listing has come to, as a walk.
 #![tactic(auto)]
 
 ghost use Rattle.std.specs.Prelude.{◌≡◌};
@@ -6,16 +6,15 @@ ghost use Rattle.listing.specs.Listing.{Opened, Resumed, SteppedIs};
 
 use image::Image;
 use refusal::Refusal;
-use steps::{Listed, step_at};
+use steps::Listed;
+use steps::walk::Walk;
 
-// The lent image, or one of no bytes where it, its stretches or the offset were refused, and by which refusal; the place; and the number of the first
-// stretch that may still tell of it. A refused listing is a listing too, and no `Err`: its first step is an end mark.
+// A walk over the lent image, or over one of no bytes where it, its stretches or the offset were refused; and by which refusal. A refused listing is a listing
+// too, and no `Err`: its first step is an end mark.
 #[derive(Clone, Copy, Debug, PartialEq, Eq)]
 pub struct Listing<'a> {
-    pub image: Image<'a>,
     pub refusal: Option<Refusal>,
-    pub at: usize,
-    pub next: usize,
+    pub walk: Walk<'a>,
 }
 
 impl<'a> Listing<'a> {
@@ -25,21 +24,20 @@ impl<'a> Listing<'a> {
     {
         match image.check_place(offset) {
             Ok(()) => Listing {
-                image,
                 refusal: None,
-                at: offset,
-                next: 0,
+                walk: Walk::from(image, offset),
             },
-            Err(refusal) => Listing {
-                image: Image {
+            Err(refusal) => {
+                let nothing = Image {
                     bytes: &[],
                     stretches: &[],
                     ..image
-                },
-                refusal: Some(refusal),
-                at: 0,
-                next: 0,
-            },
+                };
+                Listing {
+                    refusal: Some(refusal),
+                    walk: Walk::from(nothing, 0),
+                }
+            }
         }
     }
 
@@ -52,19 +50,15 @@ impl<'a> Listing<'a> {
 
     // The place that a listing has come to: the offset that it is put aside as.
     pub fn offset(self) -> usize
-        ensures { result ≡ self.entry.at }
+        ensures { result ≡ self.entry.walk.place }
     {
-        self.at
+        self.walk.place
     }
 
     // One step of a listing.
     pub fn step(&mut self, line: &mut [u8]) -> Listed
         ensures { SteppedIs self.old line.old result line.new self.new }
     {
-        let next = self.image.first_left(self.next, self.at);
-        let listed = step_at(self.image, next, self.at, line);
-        self.at += listed.bytes();
-        self.next = next;
-        listed
+        self.walk.step(line)
     }
 }

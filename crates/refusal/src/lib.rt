@@ -24,6 +24,10 @@ pub enum Refusal {
     WrongPlace = 8,
     // on the sheet, a test (tst, teq, cmp, cmn) whose S is clear
     NoFlags = 9,
+    // more addresses than are answered at once
+    TooManyAddresses = 10,
+    // the place of an address is below that of the one before it
+    UnsortedAddresses = 11,
 }
 
 // The number that C and the row program's output know a refusal by; 0 is none of them.

@@ -15,10 +15,9 @@ use Rattle.pairs.specs.Print.{pair_line}
 use Rattle.pairs.proofs.Printing.{pair_length, pair_prints}
 use Rattle.image.specs.Bytes.{half, word}
 use Rattle.image.specs.Refusal.{refusal_at}
-use Rattle.image.specs.Stretches.{left, first_left, pairs, set_at}
+use Rattle.image.specs.Stretches.{pairs, set_at}
 use Rattle.image.specs.declared.Stretch.{Stretch}
 use Rattle.image.specs.declared.Set.{Set}
-use Rattle.image.proofs.Stretches.{left_same}
 use Rattle.steps.specs.Steps.{call_pair, span_in, span_at, span_bytes, span_line, has_step}
 use Rattle.steps.specs.Listed.{listed_offset, listed_bytes, told, listed, list_step, step_unless}
 use Rattle.steps.specs.declared.Span.{Span}
@@ -115,9 +114,6 @@ word_refusals image (Set.Thumb n) p at k e =
 pub listed_same : (image : List ℕ) (ss ts : List Stretch) (base at : ℕ) (l : List ℕ) → set_at ss at ≡ set_at ts at → listed image ss base at l ≡ listed image ts base at l
 unfolding listed
 listed_same image ss ts base at l e = rw e
-
-pub listed_left : (image list : List ℕ) (next base at : ℕ) (l : List ℕ) → listed image (left list (first_left list next at)) base at l ≡ listed image (left list next) base at l
-listed_left image list next base at l = listed_same image (left list (first_left list next at)) (left list next) base at l (left_same list next at at (omega arith))
 
 -- ---- one step at any place
 -- its offset is the place, or 0, and it has few bytes: both fit in 32 bits where the place does

@@ -6,7 +6,8 @@ use Rattle.common.proofs.Tests.{by_test}
 use Rattle.thumb.specs.Pair.{is_first_half, is_pair, is_second_half}
 use Rattle.pairs.proofs.Halves.{not_both}
 use Rattle.image.specs.Bytes.{half}
-use Rattle.std.proofs.Common.{Ok}
+use Rattle.std.proofs.Common.{Some, None, Ok}
+use Rattle.std.proofs.lemmas.Option.{none-some}
 use Rattle.image.specs.Stretches.{pairs, set_at}
 use Rattle.image.specs.declared.Stretch.{Stretch}
 use Rattle.image.specs.Refusal.{unit, refusal, refusal_at}
@@ -14,7 +15,7 @@ use Rattle.image.specs.declared.Set.{Set}
 use Rattle.image.specs.declared.Set.TheVariants.{Arm, Thumb}
 use Rattle.image.proofs.Stretches.{thumb_before, thumb_on}
 use Rattle.image.proofs.Valid.{Valid, valid, Placed, placed, not_refused, start, thumb_inside}
-use Rattle.steps.specs.Steps.{call_pair, span_in, span_at, span_bytes, Step, step_of, has_step, steps_for, steps, total, Follow, times}
+use Rattle.steps.specs.Steps.{call_pair, span_in, span_at, span_bytes, Step, step_of, has_step, span_here, steps_for, steps, total, Follow, times}
 use Rattle.steps.specs.declared.Span.{Span}
 use Rattle.steps.specs.declared.Span.TheVariants.{Word, Half, Pair}
 use Rattle.steps.proofs.Bytes.{pair_inside}
@@ -33,6 +34,19 @@ module _ (image : List ℕ) (ss : List Stretch) where
   -- at the end, or past it, there is none
   pub no_step : (at : ℕ) → length image ≤ at → has_step image ss at ≡ false
   no_step at h = let b = some_bytes (span_at image ss at) in lt-leb (at + bytes at) (length image) (omega (arith, h, b))
+
+  -- so there is a span where there is a step, and none elsewhere
+  pub span_some : (at : ℕ) (x : Span) → Some x ≡ span_here image ss at → (has_step image ss at ≡ true) × (x ≡ span_at image ss at)
+  span_some at x e =
+      by_test (has_step image ss at)
+      (λ t. let q : Some x ≡ Some (span_at image ss at) = rw t at e in (t, cc))
+      (λ t. let q : Some x ≡ None = rw t at e in absurd (none-some x (sym q)))
+
+  pub span_none : (at : ℕ) → None ≡ span_here image ss at → has_step image ss at ≡ false
+  span_none at e =
+      by_test (has_step image ss at)
+      (λ t. let q : None ≡ Some (span_at image ss at) = rw t at e in absurd (none-some (span_at image ss at) q))
+      (λ t. t)
 
   -- one that is there lies inside the image
   pub step_inside : (at : ℕ) → has_step image ss at ≡ true → at + bytes at ≤ length image

@@ -1,2 +1,3 @@
 pub mod Steps
 pub mod Listed
+pub mod Walk

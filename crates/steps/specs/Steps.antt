@@ -1,5 +1,5 @@
 -- The listing of an image as a list of steps, of document 02 (v). Assumes nothing.
-use Rattle.std.specs.Prelude.{◌≡◌, ℕ, zero, suc, ◌+◌, ◌-◌, ◌<◌, Bool, cond, ◌&&◌, List, [], ◌∷◌, length, nat_le, nat_lt}
+use Rattle.std.specs.Prelude.{◌≡◌, ℕ, zero, suc, ◌+◌, ◌-◌, ◌<◌, Bool, cond, ◌&&◌, List, [], ◌∷◌, length, nat_le, nat_lt, Option, Some, None}
 use Rattle.arm7tdmi.specs.Signed.{moved}
 use Rattle.arm7tdmi.specs.declared.Form.TheVariants.{Sheet}
 use Rattle.lines.specs.Answer.{Answer}
@@ -52,6 +52,10 @@ span_at image ss at = span_in image (set_at ss at) at
 
 abbrev pub has_step : List ℕ → List Stretch → ℕ → Bool
 has_step image ss at = nat_le (at + span_bytes (span_at image ss at)) (length image)
+
+-- that span, or none where there is no step
+abbrev pub span_here : List ℕ → List Stretch → ℕ → Option Span
+span_here image ss at = cond (has_step image ss at) (Some (span_at image ss at)) None
 
 -- ".. and moves on by that length": the steps from a place on, at most as many as the fuel
 unfoldable pub steps_for : List ℕ → List Stretch → ℕ → ℕ → ℕ → List Step

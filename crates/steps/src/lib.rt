@@ -6,8 +6,10 @@ ghost use Rattle.arm7tdmi.specs.Signed.{moved};
 ghost use Rattle.lines.specs.Answer.{printed};
 ghost use Rattle.image.specs.Bytes.{half};
 ghost use Rattle.image.specs.Stretches.{left};
-ghost use Rattle.steps.specs.Steps.{call_pair, span_in, span_bytes, span_line};
+ghost use Rattle.steps.specs.Steps.{call_pair, span_in, span_bytes, span_line, span_here};
 ghost use Rattle.steps.specs.Listed.{listed_refusal, listed_offset, listed_bytes, listed_length, told, listed, list_step};
+
+pub mod walk;
 
 use arm_print::print_arm;
 use arm7tdmi::Form;
@@ -160,17 +162,28 @@ fn told(at: usize, bytes: usize, printed: Result<usize, Refusal>) -> Listed
     }
 }
 
+// What the step at a place covers, by the stretches from number next on; none where the image does not have all of its bytes.
+fn span_here(image: Image, next: usize, at: usize) -> Option<Span>
+    ensures { result ≡ span_here image.entry.bytes.now (left image.entry.stretches.now next) at }
+{
+    let span = Span::of(image.bytes, image.set_at(next, at), at);
+    if has_room(image.bytes.len(), at, span.bytes()) {
+        return Some(span);
+    }
+    None
+}
+
 // The step at a place, by the stretches from number next on.
-pub fn step_at(image: Image, next: usize, at: usize, line: &mut [u8]) -> Listed
+fn step_at(image: Image, next: usize, at: usize, line: &mut [u8]) -> Listed
     ensures { listed image.entry.bytes.now (left image.entry.stretches.now next) image.entry.base at line.old ≡ (result, line.new) }
 {
-    let x = Span::of(image.bytes, image.set_at(next, at), at);
-    let bytes = x.bytes();
-    if has_room(image.bytes.len(), at, bytes) {
-        let pc = address(image.base, at);
-        return told(at, bytes, x.print(image.bytes, pc, at, line));
+    match span_here(image, next, at) {
+        Some(span) => {
+            let pc = address(image.base, at);
+            told(at, span.bytes(), span.print(image.bytes, pc, at, line))
+        }
+        None => Listed::End(at),
     }
-    Listed::End(at)
 }
 
 // One step of the listing of an image, at any place; 6, 7 or 8 where image, stretches or place are refused.

@@ -1,13 +1,18 @@
 -- `steps::step_at` meets its contract. Assumes nothing.
+use Rattle.image.specs.Stretches.{left}
 use Rattle.steps.specs.Listed.{listed}
+use Rattle.steps.proofs.Steps.{span_none, span_some}
 use Rattle.steps.proofs.step_at.Goals as goal
 
-pub returns-then-has_room : goal.returns-then-has_room
+pub returns-in-Some : goal.returns-in-Some
 unfolding listed
-returns-then-has_room c =
-    rw (← c.set_at.ensures, ← c.of-x.ensures, ← c.bytes-bytes.ensures, ← c.has_room.ensures, c.if-has_room.true, ← c.address-pc.ensures, c.print.ensures, c.told.ensures)
+returns-in-Some c =
+    let i = c.args.image in
+    let s = span_some i.bytes.now (left i.stretches.now c.args.next) c.args.at c.in-Some.span c.in-Some.ensures in
+    rw (s.0, ← s.1, ← c.bytes.ensures, ← c.address-pc.ensures, c.print.ensures, c.told.ensures)
 
-pub returns : goal.returns
+pub returns-in-None : goal.returns-in-None
 unfolding listed
-returns c =
-    rw (← c.set_at.ensures, ← c.of-x.ensures, ← c.bytes-bytes.ensures, ← c.has_room.ensures, c.if-has_room.false)
+returns-in-None c =
+    let i = c.args.image in
+    rw (span_none i.bytes.now (left i.stretches.now c.args.next) c.args.at c.in-None.ensures)

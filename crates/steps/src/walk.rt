@@ -1,0 +1,82 @@
+//! The steps of a listing one after another: an image, and the place that has been come to.
+
+ghost use Rattle.std.specs.Prelude.{◌≡◌, ◌+◌};
+ghost use Rattle.image.specs.Stretches.{Passed, pairs};
+ghost use Rattle.steps.specs.Steps.{span_bytes};
+
+use crate::{Listed, Span, span_here, step_at};
+use image::Image;
+
+/// A step that is not printed: the image that it is of, what it covers, its offset, and the offset behind it, in bytes from the image's start.
+#[derive(Clone, Copy, Debug, PartialEq, Eq)]
+pub struct UnprintedStep<'a> {
+    pub image: Image<'a>,
+    pub span: Span,
+    pub offset: usize,
+    pub end: usize,
+    pub ghost ends: { end ≡ offset + span_bytes span },
+}
+
+/// The steps of an image from a place on, the offset of the first in bytes from its start. They are those of any image, with any stretches, from any place; there
+/// is one as long as the image has all of its bytes. It goes over the stretches once: those before number `next` ended by its place.
+#[derive(Clone, Copy, Debug, PartialEq, Eq)]
+pub struct Walk<'a> {
+    pub image: Image<'a>,
+    pub place: usize,
+    next: usize,
+    ghost passed: { Passed image.stretches.now next place },
+}
+
+impl<'a> Walk<'a> {
+    ghost use Rattle.steps.specs.Listed.{listed, next_place};
+
+    /// The steps of an image from a place on.
+    pub fn from(image: Image<'a>, place: usize) -> Self
+        ensures image { result.image ≡ image.entry }
+        ensures place { result.place ≡ place }
+    {
+        Walk {
+            image,
+            place,
+            next: 0,
+        }
+    }
+
+    /// Prints the step at the place into a lent buffer, and moves on by its byte length: not at all where the buffer is shorter than the line (3), or at
+    /// the end.
+    pub fn step(&mut self, line: &mut [u8]) -> Listed
+        ensures answer { listed self.old.image.bytes.now (pairs self.old.image.stretches.now) self.old.image.base self.old.place line.old ≡ (result, line.new) }
+        ensures image { self.new.image ≡ self.old.image }
+        ensures place { self.new.place ≡ next_place result }
+    {
+        let next = self.image.first_left(self.next, self.place);
+        let listed = step_at(self.image, next, self.place, line);
+        self.place += listed.bytes();
+        self.next = next;
+        listed
+    }
+}
+
+impl<'a> Iterator for Walk<'a> {
+    ghost use Rattle.std.specs.Iterator.{YieldsFirstBy, item_count};
+    ghost use Rattle.steps.specs.Walk.{listed_step, rest};
+
+    type Item = UnprintedStep<'a>;
+
+    ghost next_gives = { YieldsFirstBy listed_step rest };
+
+    ghost remaining = { item_count rest };
+
+    fn next(&mut self) -> Option<UnprintedStep<'a>> {
+        self.next = self.image.first_left(self.next, self.place);
+        let span = span_here(self.image, self.next, self.place)?;
+        let offset = self.place;
+        self.place += span.bytes();
+        Some(UnprintedStep {
+            image: self.image,
+            span,
+            offset,
+            end: self.place,
+        })
+    }
+}
