@@ -1,5 +1,5 @@
 -- Numbers at the C interface. Assumes nothing.
-use Rattle.std.specs.Prelude.{cond, List, ℕ, eqb, Option, Some, None, Result, Ok, Err, ⊤}
+use Rattle.std.specs.Prelude.{cond, List, ◌++◌, ℕ, eqb, length, take, drop, Option, Some, None, Result, Ok, Err, ⊤}
 use Rattle.refusal.specs.Refusal.{number, numbers}
 use Rattle.refusal.specs.declared.Refusal.{Refusal}
 use Rattle.arm7tdmi.specs.declared.Form.{Form}
@@ -40,3 +40,11 @@ done_number (Err r) = number r
 
 abbrev pub patched_numbers : Result ⊤ Refusal × List ℕ → ℕ × List ℕ
 patched_numbers r = (done_number r.0, r.1)
+
+-- some values written to the start of a lent list of numbers, as far as there is room
+abbrev pub written : List ℕ → List ℕ → List ℕ
+written values lent = take (length lent) values ++ drop (length values) lent
+
+-- the answer for many addresses, a number and 64 values: the number, and what the lent numbers are then
+abbrev pub offsets_given : ℕ × List ℕ → List ℕ → ℕ × List ℕ
+offsets_given answer lent = (answer.0, written answer.1 lent)

@@ -16,7 +16,8 @@ ghost use Rattle.pairs.specs.Read as Pair;
 ghost use Rattle.pairs.specs.Run.{pairing_index, pairing_number, unpaired};
 ghost use Rattle.steps.specs.Listed.{list_step};
 ghost use Rattle.patch.specs.Patch.{patched};
-ghost use Rattle.modestsilk.specs.Numbers.{form_of, given, numbers_of, patched_numbers, printed_numbers, refusal_number};
+ghost use Rattle.step_offsets.specs.Offsets.{offsets_numbers, step_offsets};
+ghost use Rattle.modestsilk.specs.Numbers.{form_of, given, numbers_of, offsets_given, patched_numbers, printed_numbers, refusal_number, written};
 
 use arm::arm_format;
 use arm_print::print_arm;
@@ -28,6 +29,7 @@ use pairs::read::read_pair;
 use pairs::run::unpaired;
 use patch::patch;
 use refusal::Refusal;
+use step_offsets::{MOST_ADDRESSES, NO_OFFSET, step_offsets};
 use steps::list_step;
 use thumb::thumb_format;
 use thumb_print::print_thumb;
@@ -218,4 +220,36 @@ pub extern "C" fn silk_patch(
     ensures { patched_numbers (patched image.old stretches.now base offset line.now) ≡ (result, image.new) }
 {
     refusal_number(patch(image, stretches, base, offset as usize, line).err())
+}
+
+// Writes values to the start of a lent list of numbers, as far as there is room.
+fn write(values: &[u32], lent: &mut [u32])
+    ensures { lent.new ≡ written values.now lent.old }
+{
+    let n = values.len().min(lent.len());
+    lent[..n].copy_from_slice(&values[..n]);
+}
+
+// For each address the offset of the step, in a listing of the image from its start, that it lies in: 64 numbers, written as far as there is room. The answer
+// is 0, or 6, 7, 10 or 11 and no offset at all.
+#[unsafe(no_mangle)]
+pub extern "C" fn silk_steps_at(
+    image: &[u8],
+    stretches: &[u8],
+    base: u32,
+    addresses: &[u32],
+    offsets: &mut [u32],
+) -> u32
+    ensures { offsets_given (offsets_numbers (step_offsets image.now stretches.now base addresses.now)) offsets.old ≡ (result, offsets.new) }
+{
+    let lent = Image {
+        bytes: image,
+        stretches,
+        base,
+    };
+    let none = [NO_OFFSET; MOST_ADDRESSES];
+    let mut values = none;
+    let number = give(step_offsets(lent, addresses), none, &mut values);
+    write(&values, offsets);
+    number
 }

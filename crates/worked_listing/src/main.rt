@@ -1,11 +1,12 @@
-// The worked listings and patches. Each row of standard input is shown on standard output, with what it gives under it.
+// The worked listings, patches and addresses. Each row of standard input is shown on standard output, with what it gives under it.
 //
 // A row of a listing has, with spaces between them: the base and the place, in hexadecimal; how many bytes of buffer are lent; how often the bytes of the
 // image are repeated; these bytes, and those of the list of stretches, in hexadecimal, or none; and a title. A step is shown by its offset, its byte length
 // and its line, or ! and a refusal's number, or end. Where a step is refused with 3, the buffer has 80 bytes from then on.
 //
 // The rows under it go on with that image. `patch`, an offset of eight digits and a sheet line: shown by the patch's number, and all bytes of the image then.
-// `resume`, an offset and a title: shown by the steps from there on.
+// `resume`, an offset and a title: shown by the steps from there on. `find` and some addresses of eight digits each: shown by 0 and the offset of the step that
+// each lies in, or none, or by ! and a refusal's number.
 #![tactic(auto, unfolding(text::specs::Puts::puts))]
 
 ghost use Rattle.std.specs.Prelude.{◌≡◌, ◌≤◌};
@@ -16,6 +17,7 @@ use lines::LINE;
 use patch::patch;
 use refusal::Refusal;
 use std::io;
+use step_offsets::{MOST_ADDRESSES, NO_OFFSET, step_offsets};
 use steps::{Listed, list_step};
 use text::put::{Writer, part};
 use text::read::{first_word, next_word, read_number};
@@ -26,6 +28,9 @@ const IMAGE: usize = 65540;
 const SHOWN: usize = 4096;
 
 const TABLE: usize = 16384;
+
+// Room for one address more than are answered.
+const ADDRESSES: usize = MOST_ADDRESSES + 1;
 
 // A row of the table, by its first word.
 #[derive(Clone, Copy, Debug, PartialEq, Eq)]
@@ -48,6 +53,10 @@ enum Row<'a> {
     Resume {
         place: usize,
     },
+    // the digits of the addresses
+    Find {
+        addresses: &'a [u8],
+    },
 }
 
 impl<'a> Row<'a> {
@@ -60,6 +69,7 @@ impl<'a> Row<'a> {
                 line: part(row, 15, row.len()),
             },
             b"resume" => Row::Resume { place },
+            b"find" => Row::Find { addresses: rest },
             base => Row::listing(base, place, next_word(rest)),
         }
     }
@@ -242,6 +252,57 @@ fn put_patch(out: &mut Writer<'_>, patched: Result<(), Refusal>, image: &[u8])
     out.put_byte(b'\n');
 }
 
+// Some addresses, with a space between them, into a buffer; answers how many there are, at most as many as there is room for.
+fn read_addresses(addresses: &mut [u32; ADDRESSES], digits: &[u8]) -> usize
+    ensures { result ≤ 65 }
+{
+    if digits.is_empty() {
+        return 0;
+    }
+    let words = digits.split(|byte| *byte == b' ');
+    for (address, word) in addresses.iter_mut().zip(words) {
+        *address = read_number::<16>(word);
+    }
+    digits.split(|byte| *byte == b' ').count().min(ADDRESSES)
+}
+
+// The offsets of so many addresses, or a refusal, as a line.
+fn put_offsets(out: &mut Writer<'_>, found: Result<[u32; MOST_ADDRESSES], Refusal>, count: usize)
+    ensures { out.new.bytes.ghost_name ≡ out.old.bytes.ghost_name }
+{
+    match found {
+        Ok(offsets) => {
+            out.put_byte(b'0');
+            for offset in offsets.iter().take(count) {
+                put_offset(out, *offset);
+            }
+            out.put_byte(b'\n');
+        }
+        Err(refusal) => put_refusal(out, refusal),
+    }
+}
+
+// An offset, or none, behind a space.
+fn put_offset(out: &mut Writer<'_>, offset: u32)
+    ensures { out.new.bytes.ghost_name ≡ out.old.bytes.ghost_name }
+{
+    out.put_byte(b' ');
+    if offset == NO_OFFSET {
+        out.put_text(b"none");
+    } else {
+        out.put_dec(offset);
+    }
+}
+
+// The offsets of the steps that some addresses lie in.
+fn put_found(out: &mut Writer<'_>, image: Image, digits: &[u8])
+    ensures { out.new.bytes.ghost_name ≡ out.old.bytes.ghost_name }
+{
+    let mut addresses = [0u32; ADDRESSES];
+    let count = read_addresses(&mut addresses, digits);
+    put_offsets(out, step_offsets(image, &addresses[..count]), count);
+}
+
 // A row, and what it gives under it.
 fn put_row(out: &mut Writer<'_>, row: &[u8], case: &mut Case)
     ensures { out.new.bytes.ghost_name ≡ out.old.bytes.ghost_name }
@@ -267,6 +328,7 @@ fn put_row(out: &mut Writer<'_>, row: &[u8], case: &mut Case)
             put_patch(out, patched, case.image.bytes());
         }
         Row::Resume { place } => put_steps(out, case.lent(), place, LINE),
+        Row::Find { addresses } => put_found(out, case.lent(), addresses),
     }
 }
 
