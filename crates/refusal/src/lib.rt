@@ -24,7 +24,7 @@ pub enum Refusal {
     WrongPlace = 8,
     // on the sheet, a test (tst, teq, cmp, cmn) whose S is clear
     NoFlags = 9,
-    // more addresses than are answered at once
+    // there are more than 64 addresses
     TooManyAddresses = 10,
     // the place of an address is below that of the one before it
     UnsortedAddresses = 11,
