@@ -12,7 +12,7 @@ use silk::{Pair, SHEET, Step};
 use crate::{Least, PASSES};
 
 /// Bytes of the image.
-const IMAGE: usize = 1 << 16;
+pub const IMAGE: usize = 1 << 16;
 
 /// Listings of the image that are timed at once.
 const LISTINGS: u32 = 500;

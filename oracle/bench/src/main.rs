@@ -5,6 +5,7 @@
 
 mod listing;
 mod patch;
+mod steps_at;
 
 use std::env;
 use std::fmt::{Display, Write as _};
@@ -325,6 +326,7 @@ fn main() -> io::Result<()> {
     );
     run_of_pairs(&calls);
     patch::table();
+    steps_at::table();
 
     let programs: Vec<String> = env::args().skip(1).collect();
     let [ours, rust, listing] = &programs[..] else {

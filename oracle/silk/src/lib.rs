@@ -75,6 +75,17 @@ mod c {
             line: *const u8,
             length: usize,
         ) -> u32;
+        pub fn silk_steps_at(
+            image: *const u8,
+            image_length: usize,
+            stretches: *const u8,
+            stretches_length: usize,
+            base: u32,
+            addresses: *const u32,
+            count: usize,
+            offsets: *mut u32,
+            capacity: usize,
+        ) -> u32;
     }
 }
 
@@ -84,6 +95,9 @@ pub use c::{
 
 pub const BENCH: u32 = 0;
 pub const SHEET: u32 = 1;
+
+/// Addresses that `steps_at` takes at most, and the offsets that it writes.
+pub const ADDRESSES: usize = 64;
 
 /// Lends the buffer; gives the number and the length, which is `usize::MAX`
 /// if the function leaves it alone.
@@ -201,6 +215,30 @@ pub fn patch(image: &mut [u8], stretches: &[u8], base: u32, offset: u32, line: &
             offset,
             line.as_ptr(),
             line.len(),
+        )
+    }
+}
+
+/// Lends the image, its stretches, the addresses and the offsets; gives the number.
+pub fn steps_at(
+    image: &[u8],
+    stretches: &[u8],
+    base: u32,
+    addresses: &[u32],
+    offsets: &mut [u32; ADDRESSES],
+) -> u32 {
+    // SAFETY: all are lent for the call alone.
+    unsafe {
+        c::silk_steps_at(
+            image.as_ptr(),
+            image.len(),
+            stretches.as_ptr(),
+            stretches.len(),
+            base,
+            addresses.as_ptr(),
+            addresses.len(),
+            offsets.as_mut_ptr(),
+            offsets.len(),
         )
     }
 }
