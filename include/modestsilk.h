@@ -138,6 +138,9 @@ uint32_t silk_list_step(const uint8_t *image, size_t image_length, const uint8_t
 uint32_t silk_patch(uint8_t *image, size_t image_length, const uint8_t *stretches, size_t stretches_length, uint32_t base, uint32_t offset,
                     const uint8_t *line, size_t length);
 
+uint32_t silk_steps_at(const uint8_t *image, size_t image_length, const uint8_t *stretches, size_t stretches_length, uint32_t base,
+                       const uint32_t *addresses, size_t count, uint32_t *offsets, size_t capacity);
+
 #ifdef __cplusplus
 }
 #endif
