@@ -13,7 +13,7 @@ use Rattle.image.specs.declared.Image.{Image}
 use Rattle.image.specs.declared.Stretch.{Stretch}
 use Rattle.image.proofs.Valid.{start, start_same}
 use Rattle.steps.specs.Steps.{Step, step_of, span_at, span_bytes, span_line, has_step, steps_for, steps}
-use Rattle.steps.specs.Listed.{listed, list_step, listed_offset, next_place}
+use Rattle.steps.specs.Listed.{listed, list_step, next_place}
 use Rattle.steps.specs.declared.Listed.{Listed}
 use Rattle.steps.specs.declared.Listed.TheVariants.{End}
 use Rattle.steps.specs.declared.Span.{Span}

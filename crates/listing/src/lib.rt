@@ -25,7 +25,7 @@ impl<'a> Listing<'a> {
         match image.check_place(offset) {
             Ok(()) => Listing {
                 refusal: None,
-                walk: Walk::from(image, offset),
+                walk: Walk::new(image, offset),
             },
             Err(refusal) => {
                 let nothing = Image {
@@ -35,7 +35,7 @@ impl<'a> Listing<'a> {
                 };
                 Listing {
                     refusal: Some(refusal),
-                    walk: Walk::from(nothing, 0),
+                    walk: Walk::new(nothing, 0),
                 }
             }
         }

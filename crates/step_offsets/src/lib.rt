@@ -56,7 +56,7 @@ fn offsets(image: Image, addresses: &[u32]) -> [u32; MOST_ADDRESSES]
     ensures { result ≡ offsets image.entry.bytes.now image.entry.stretches.now image.entry.base addresses.now }
 {
     let mut offsets = [NO_OFFSET; MOST_ADDRESSES];
-    let mut walk = Walk::from(image, 0);
+    let mut walk = Walk::new(image, 0);
     for (i, address) in addresses.iter().enumerate() {
         let place = place_of(image.base, *address);
         if let Some(step) = seek(&mut walk, place as usize) {

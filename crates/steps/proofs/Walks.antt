@@ -1,9 +1,9 @@
 -- A walk's step, by the stretches that are left to it, is one of the listing. Assumes nothing.
-use Rattle.std.proofs.Common.{◌≡◌, ℕ, ◌+◌, true, false, cond, List, [], ◌∷◌, Some, None, length, nat_le, sym, ap, ◌∙◌, arith}
+use Rattle.std.proofs.Common.{◌≡◌, ℕ, ◌+◌, cond, List, [], ◌∷◌, Some, None, length, nat_le, ap, ◌∙◌, arith}
 use Rattle.image.specs.Stretches.{Passed, first_left, left, pairs, set_at}
 use Rattle.image.specs.declared.Set.{Set}
 use Rattle.image.proofs.Stretches.{left_same, passed_same}
-use Rattle.steps.specs.Steps.{Step, step_of, span_in, span_bytes, span_here, steps}
+use Rattle.steps.specs.Steps.{step_of, span_in, span_bytes, span_here, steps}
 use Rattle.steps.specs.Listed.{listed}
 use Rattle.steps.specs.declared.Span.{Span}
 use Rattle.steps.proofs.Answers.{listed_same}

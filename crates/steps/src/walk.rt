@@ -1,4 +1,4 @@
-//! The steps of a listing one after another: an image, and the place that has been come to.
+//! The steps of a listing one after another: an image, and the place in it that has been come to.
 
 ghost use Rattle.std.specs.Prelude.{◌≡◌, ◌+◌};
 ghost use Rattle.image.specs.Stretches.{Passed, pairs};
@@ -17,12 +17,13 @@ pub struct UnprintedStep<'a> {
     pub ghost ends: { end ≡ offset + span_bytes span },
 }
 
-/// The steps of an image from a place on, the offset of the first in bytes from its start. They are those of any image, with any stretches, from any place; there
-/// is one as long as the image has all of its bytes. It goes over the stretches once: those before number `next` ended by its place.
+/// A walk over the steps of an image's listing: the image, and the place that has been come to, in bytes from its start. As an iterator it yields the steps
+/// from there on, not printed; `step` prints one. Any image, stretches and place will do: there is a step as long as the image has all of its bytes.
 #[derive(Clone, Copy, Debug, PartialEq, Eq)]
 pub struct Walk<'a> {
     pub image: Image<'a>,
     pub place: usize,
+    // The number of the first stretch that may still tell of the place, or of one behind it: those before it are not looked at again.
     next: usize,
     ghost passed: { Passed image.stretches.now next place },
 }
@@ -30,8 +31,8 @@ pub struct Walk<'a> {
 impl<'a> Walk<'a> {
     ghost use Rattle.steps.specs.Listed.{listed, next_place};
 
-    /// The steps of an image from a place on.
-    pub fn from(image: Image<'a>, place: usize) -> Self
+    /// A walk over the steps of an image from a place on.
+    pub fn new(image: Image<'a>, place: usize) -> Self
         ensures image { result.image ≡ image.entry }
         ensures place { result.place ≡ place }
     {
@@ -42,8 +43,8 @@ impl<'a> Walk<'a> {
         }
     }
 
-    /// Prints the step at the place into a lent buffer, and moves on by its byte length: not at all where the buffer is shorter than the line (3), or at
-    /// the end.
+    /// Prints the step at the place into a lent buffer, and moves on by its byte length; where the buffer is shorter than the line (3), and at the end, the
+    /// place stays.
     pub fn step(&mut self, line: &mut [u8]) -> Listed
         ensures answer { listed self.old.image.bytes.now (pairs self.old.image.stretches.now) self.old.image.base self.old.place line.old ≡ (result, line.new) }
         ensures image { self.new.image ≡ self.old.image }

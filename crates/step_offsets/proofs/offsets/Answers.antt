@@ -1,5 +1,5 @@
 -- `step_offsets::offsets` meets its contract. Assumes nothing.
-use Rattle.std.proofs.Common.{option_map, refl, ap, sym, ◌∙◌, arith}
+use Rattle.std.proofs.Common.{option_map, refl, ap, sym, arith}
 use Rattle.steps.specs.Walk.{listed_step}
 use Rattle.step_offsets.proofs.Places.{past_start}
 use Rattle.step_offsets.proofs.Turns.{Turn, found_number, found_within, no_number, walked_on}
@@ -11,7 +11,7 @@ pub loop-i-init : goal.loop-i-init
 loop-i-init c =
     let x = c.args.image in
     record {
-      walked = rw (c.from-walk.ensures.image, c.from-walk.ensures.place) (sym (past_start x.bytes.now x.stretches.now x.base c.requires.fine));
+      walked = rw (c.new-walk.ensures.image, c.new-walk.ensures.place) (sym (past_start x.bytes.now x.stretches.now x.base c.requires.fine));
       given = refl;
     }
 

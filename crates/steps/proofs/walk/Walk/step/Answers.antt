@@ -2,7 +2,7 @@
 use Rattle.std.proofs.Common.{◌≡◌, ◌+◌, ◌-◌, ◌≤◌, length, sym, ◌∙◌, arith}
 use Rattle.image.specs.Stretches.{left}
 use Rattle.image.proofs.Stretches.{passed_on}
-use Rattle.steps.specs.Listed.{listed_bytes, listed_offset, next_place}
+use Rattle.steps.specs.Listed.{listed_bytes, listed_offset}
 use Rattle.steps.proofs.Answers.{listed_inside, listed_offset_lem}
 use Rattle.steps.proofs.Walks.{listed_still}
 use Rattle.steps.proofs.walk.Walk.step.Goals as goal

@@ -1,8 +1,7 @@
 -- `steps::walk::WalkIterator::next` meets its contract. Assumes nothing.
 use Rattle.std.proofs.Common.{◌≡◌, ◌+◌, List, ◌∷◌, Some, None, length, sym, ap, ◌∙◌, arith}
-use Rattle.image.specs.Stretches.{left}
 use Rattle.image.proofs.Stretches.{passed_on}
-use Rattle.steps.specs.Steps.{Step, step_of, span_here, steps}
+use Rattle.steps.specs.Steps.{Step, step_of, steps}
 use Rattle.steps.proofs.Walks.{walk_end, walk_on}
 use Rattle.steps.proofs.walk.WalkIterator.next.Goals as goal
 
