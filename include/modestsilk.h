@@ -55,13 +55,27 @@
  * of a test stores the word with S. A word that is not the lowest of its line cannot
  * be patched in: F800, which prints as F000 does.
  *
+ * silk_steps_at takes up to 64 (SILK_MOST_ADDRESSES) addresses of an image, and gives
+ * for each the offset of the step that it lies in, in a listing from place 0: an
+ * address in the middle of a word gets the word's offset, one in the second half of a
+ * call pair the pair's. The place of an address is address - base, modulo 2^32; places
+ * must not descend, and equal ones are fine. The answer is 0, or
+ *   6, 7   as above,
+ *   10  there are more than 64 addresses,
+ *   11  the place of an address is below that of the one before it,
+ * in this order. It has 64 numbers: one for each address, 0xffffffff (SILK_NO_OFFSET)
+ * where the place is outside the image, and behind them, or on a refusal everywhere,
+ * 0xffffffff. They are written to the first 64 of offsets, or to all where it has
+ * fewer; what is behind the 64th keeps its value. One walk over the steps serves all
+ * addresses, and prints nothing.
+ *
  * What the pointers must be: line points to capacity bytes (a print) or length
- * bytes (a read or a patch), halfwords to count halfwords, image and stretches to
- * as many bytes as their lengths say, and may be NULL where that number is 0;
- * length, word, first, second, index, offset and bytes point to memory for one
- * value each, and are never NULL. What a call writes to must not overlap anything
- * else that it is given, nor be used by another call at that time. The functions
- * keep no state, so any thread may call them.
+ * bytes (a read or a patch), halfwords and addresses to count of theirs, offsets to
+ * capacity of them, image and stretches to as many bytes as their lengths say, and
+ * may be NULL where that number is 0; length, word, first, second, index, offset and
+ * bytes point to memory for one value each, and are never NULL. What a call writes to
+ * must not overlap anything else that it is given, nor be used by another call at that
+ * time. The functions keep no state, so any thread may call them.
  *
  * Link with crates/modestsilk/out/libmodestsilk.a (rt lib, in crates/modestsilk).
  */
@@ -76,6 +90,9 @@ extern "C" {
 #endif
 
 enum { SILK_BENCH = 0, SILK_SHEET = 1 };
+
+enum { SILK_MOST_ADDRESSES = 64 };
+#define SILK_NO_OFFSET UINT32_C(0xffffffff)
 
 enum silk_arm_kind {
     SILK_ARM_BRANCH_EXCHANGE = 0,

@@ -18,6 +18,8 @@ enum { SMALL = 200, BEHIND = 9 };
 /* The number of an address that no step covers, and where there is no address. */
 #define NONE 0xffffffffu
 
+_Static_assert(SILK_MOST_ADDRESSES == 64 && SILK_NO_OFFSET == NONE, "the numbers of the header");
+
 /* The addresses of a call, each as its place. */
 static struct {
     uint32_t places[MOST_ADDRESSES];

@@ -1,17 +1,14 @@
 -- Whether numbers fall, by what holds of each and the next. Assumes nothing.
-use Rattle.std.proofs.Common.{◌≡◌, ℕ, zero, suc, ◌+◌, ◌<◌, ◌≤◌, Bool, true, false, not, ◌||◌, ltb, List, [], ◌∷◌, length, map, get_or, add-one, refl, sym, arith, tests, ltb-false, true≢false, le-ltb, lt-ltb}
+use Rattle.std.proofs.Common.{◌≡◌, ℕ, zero, suc, ◌+◌, ◌<◌, ◌≤◌, Bool, true, false, not, ltb, List, [], ◌∷◌, length, map, get_or, add-one, refl, sym, arith, tests, ltb-false, true≢false, le-ltb, lt-ltb}
 use Rattle.common.proofs.Tests.{by_test}
 use Rattle.std.specs.List.{IsAllAdjacentAnswer}
 use Rattle.std.specs.List.Sorted.{IsNonDecreasing}
 use Rattle.std.proofs.lemmas.List.{get_or-map, length-map}
 use Rattle.std.proofs.lemmas.List.Sorted.{IsNonDecreasingBy-from_all_adjacent}
 use Rattle.std.specs.Ordering.{is_le, nat_cmp}
+use Rattle.std.proofs.Math.Bool.{or-true}
 use Rattle.std.proofs.lemmas.Map.Keys.{le_from_is_le}
 use Rattle.step_offsets.specs.Offsets.{falls}
-
-or_true : (b : Bool) → (b || true) ≡ true
-or_true true = refl
-or_true false = refl
 
 module _ (key : ℕ → ℕ) where
   rises : (xs : List ℕ) (before : ℕ) → ((d : ℕ) → 0 < length xs → before ≤ key (get_or xs 0 d)) → ((k d : ℕ) → k + 1 < length xs → key (get_or xs k d) ≤ key (get_or xs (k + 1) d))
@@ -26,8 +23,8 @@ module _ (key : ℕ → ℕ) where
   unfolding falls
   drops [] before k l h = absurd (omega arith)
   drops (x ∷ []) before k l h = absurd (omega arith)
-  drops (x ∷ (y ∷ ys)) before zero l h = rw (lt-ltb (key y) (key x) (h 0), or_true)
-  drops (x ∷ (y ∷ ys)) before (suc k) l h = rw (drops (y ∷ ys) (key x) k (omega arith) (λ d. rw add-one (rw add-one at (h d))), or_true)
+  drops (x ∷ (y ∷ ys)) before zero l h = rw (lt-ltb (key y) (key x) (h 0), or-true)
+  drops (x ∷ (y ∷ ys)) before (suc k) l h = rw (drops (y ∷ ys) (key x) k (omega arith) (λ d. rw add-one (rw add-one at (h d))), or-true)
 
 -- what a comparison of two numbers says
 not_le : (a b : ℕ) → is_le (nat_cmp a b) ≡ false → b < a

@@ -29,7 +29,7 @@ step_offset image list base address = offset_in (steps image list base 0) (place
 abbrev pub offsets : List ℕ → List ℕ → ℕ → List ℕ → List ℕ
 offsets image list base addresses = map (step_offset image list base) addresses ++ replicate (64 - length addresses) no_offset
 
--- whether one of some places is below that before it, where another stands before the first
+-- whether some place is below the one before it, the first of them below a number that stands before it
 unfoldable pub falls : ℕ → List ℕ → Bool
 falls before [] = false
 falls before (k ∷ ks) = nat_lt k before || falls k ks
