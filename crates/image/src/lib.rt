@@ -1,7 +1,7 @@
 // An image of words: its bytes, its Thumb stretches, which set holds at a place, and what is refused.
 #![tactic(auto)]
 
-ghost use Rattle.std.specs.Prelude.{ℕ, ◌≡◌, ◌+◌, ◌/◌, ◌<◌, ◌≤◌, ◌&&◌, length, nat_lt, slice_get, slice_index};
+ghost use Rattle.std.specs.Prelude.{ℕ, ◌≡◌, ◌+◌, ◌/◌, ◌<◌, ◌≤◌, ◌&&◌, length, nat_lt, slice_get, slice_index, OnOk};
 ghost use Rattle.image.specs.Bytes.{half, word};
 ghost use Rattle.image.specs.Stretches.{pair_at, pairs, end, left, first_left, set_at};
 ghost use Rattle.image.specs.Refusal.{unit, wrong_image, end_of, wrong_pair, wrong_pairs, wrong_list, wrong_place, refusal, refusal_at};
@@ -175,10 +175,12 @@ impl<'a> Image<'a> {
         self.stretches.len() % 8 != 0 || self.wrong_stretch()
     }
 
-    // Whether bytes and stretches are those of an image.
-    #[tactic(auto, unfolding(crate::specs::Refusal::refusal))]
+    // Whether bytes and stretches are those of an image. It has 65,536 bytes at most then, and its start is a place of it.
+    #[tactic(auto, using(crate::proofs::Valid::start_same), unfolding(crate::specs::Refusal::refusal))]
     pub fn check(self) -> Result<(), Refusal>
-        ensures { result ≡ refusal self.entry.bytes.now self.entry.stretches.now }
+        ensures answer { result ≡ refusal self.entry.bytes.now self.entry.stretches.now }
+        ensures short { OnOk result (length self.entry.bytes.now ≤ 65536) }
+        ensures start { result ≡ refusal_at self.entry.bytes.now self.entry.stretches.now 0 }
     {
         if self.wrong_bytes() {
             return Err(Refusal::WrongImage);

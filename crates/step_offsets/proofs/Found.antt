@@ -1,14 +1,12 @@
 -- What the offsets are, said of the listing and of the image. Assumes nothing.
-use Rattle.std.proofs.Common.{◌≡◌, ℕ, zero, suc, ◌+◌, ◌-◌, ◌<◌, ◌≤◌, true, false, ltb, leb, List, [], ◌∷◌, length, map, replicate, get_or, find, Some, None, Ok, refl, sym, ◌∙◌, arith, ltb-true, ltb-false, leb-true, le-leb, le-ltb}
+use Rattle.std.proofs.Common.{◌≡◌, ℕ, zero, suc, ◌+◌, ◌-◌, ◌<◌, ◌≤◌, true, false, ltb, leb, List, [], ◌∷◌, length, map, replicate, get_or, find, Some, None, refl, sym, ◌∙◌, arith, ltb-true, ltb-false, leb-true, le-leb, le-ltb}
 use Rattle.std.proofs.lemmas.List.{get_or-map, get_or_append_left, length-map}
 use mathlib.Core.Bool.{and-false}
 use Rattle.common.proofs.Tests.{and_left, by_test}
-use Rattle.image.specs.Refusal.{refusal}
-use Rattle.image.proofs.Valid.{valid}
 use Rattle.steps.specs.Steps.{Step, Follow, covers, steps}
 use Rattle.step_offsets.specs.Offsets.{offsets, place_of, step_offset}
 use Rattle.step_offsets.specs.Laws.{GivesCovering, GivesNoneOutside, GivesStepInside}
-use Rattle.step_offsets.proofs.Places.{follow, found_contained, found_covers, found_offset}
+use Rattle.step_offsets.proofs.Places.{found_contained, found_covers, found_offset}
 
 -- ---- of steps that follow one another
 -- each begins at the start or behind it
@@ -49,8 +47,8 @@ one_found k at to (t ∷ ts) f h g =
     (λ u. (t, rw (le-leb t.offset k (omega (arith, f.0)), u)))
     (λ u. let l = ltb-false _ _ u in let r = ih (omega (arith, f.0)) g in (r.0, rw (u, and-false (leb t.offset k)) r.1))
 
--- ---- of an image that is not refused
-module _ (image list : List ℕ) (base : ℕ) (addresses : List ℕ) (e : refusal image list ≡ Ok tt) where
+-- ---- of an image whose steps follow one another to its end
+module _ (image list : List ℕ) (base : ℕ) (addresses : List ℕ) (follow : Follow 0 (steps image list base 0) (length image)) where
   abbrev all : List Step
   all = steps image list base 0
 
@@ -62,25 +60,23 @@ module _ (image list : List ℕ) (base : ℕ) (addresses : List ℕ) (e : refusa
   pub of_covering : GivesCovering all base addresses (offsets image list base addresses)
   of_covering i s h m c =
       let k = place_of base (get_or addresses i 0) in
-      number i h ∙ rw (found_only k 0 (length image) all s m.0 (follow image list base e) m.1 m.2 c)
+      number i h ∙ rw (found_only k 0 (length image) all s m.0 follow m.1 m.2 c)
 
   pub of_inside : GivesStepInside all image base addresses (offsets image list base addresses)
   of_inside i h g =
       let k = place_of base (get_or addresses i 0) in
-      let r = one_found k 0 (length image) all (follow image list base e) (omega arith) g in
+      let r = one_found k 0 (length image) all follow (omega arith) g in
       (r.0, found_contained k r.0 all (sym r.1), found_covers k r.0 all (sym r.1), number i h ∙ sym (found_offset k r.0 all (sym r.1)).0)
 
-  pub none_outside : GivesNoneOutside image base addresses (offsets image list base addresses)
-  none_outside i h =
+  pub none_outside : length image ≤ 65536 → GivesNoneOutside image base addresses (offsets image list base addresses)
+  none_outside short i h =
       let k = place_of base (get_or addresses i 0) in
-      let n = number i h in
-      let f = follow image list base e in
-      let short = (valid image list e).short in (
+      let n = number i h in (
         λ q. by_test (ltb k (length image))
-            (λ t. let r = one_found k 0 (length image) all f (omega arith) (ltb-true _ _ t) in
+            (λ t. let r = one_found k 0 (length image) all follow (omega arith) (ltb-true _ _ t) in
             let o = found_offset k r.0 all (sym r.1) in
             let l = ltb-true k (length image) t in
             absurd (omega (arith, o.0, o.1, q, n)))
             (λ t. ltb-false _ _ t),
-        λ g. n ∙ rw (none_found k 0 (length image) all f g),
+        λ g. n ∙ rw (none_found k 0 (length image) all follow g),
       )

@@ -1,12 +1,9 @@
 -- The steps from the first on that ends past a place, and what is found among them. Assumes nothing.
-use Rattle.std.proofs.Common.{◌≡◌, ℕ, suc, ◌+◌, ◌<◌, ◌≤◌, ltb, leb, List, [], ◌∷◌, length, find, slice_get, Some, Ok, true, refl, sym, arith, leb-true, ltb-true, ltb-false, lt-ltb, le-ltb, le-leb}
+use Rattle.std.proofs.Common.{◌≡◌, ℕ, suc, ◌+◌, ◌<◌, ◌≤◌, ltb, leb, List, [], ◌∷◌, find, slice_get, Some, true, refl, sym, arith, leb-true, ltb-true, ltb-false, lt-ltb, le-ltb, le-leb}
 use Rattle.std.proofs.lemmas.Option.{none-some}
 use Rattle.std.specs.Prelude.{Contains}
 use Rattle.common.proofs.Tests.{and_left, by_test}
-use Rattle.image.specs.Refusal.{refusal}
-use Rattle.image.proofs.Valid.{start}
-use Rattle.steps.specs.Steps.{Step, Follow, covers, steps}
-use Rattle.steps.proofs.Steps.{steps_follow}
+use Rattle.steps.specs.Steps.{Step, Follow, covers}
 use Rattle.step_offsets.specs.Offsets.{steps_past, offset_in}
 
 pub past_here : (k : ℕ) (s : Step) (ss : List Step) → k < s.offset + s.bytes → steps_past k (s ∷ ss) ≡ s ∷ ss
@@ -66,17 +63,11 @@ found_contained k s (t ∷ ts) e =
 pub found_offset : (k : ℕ) (s : Step) (ss : List Step) → Some s ≡ find (covers k) ss → (s.offset ≡ offset_in ss k) × (s.offset ≤ k)
 found_offset k s ss e = (rw (← e), leb-true s.offset k (and_left (leb s.offset k) (ltb k (s.offset + s.bytes)) (found_covers k s ss e)))
 
--- in a listing of an image that is not refused
-module _ (image list : List ℕ) (base : ℕ) (e : refusal image list ≡ Ok tt) where
-  abbrev all : List Step
-  all = steps image list base 0
-
-  pub follow : Follow 0 all (length image)
-  follow = steps_follow image list base 0 (start image list e)
-
+-- of all steps from the start to some end
+module _ (to : ℕ) (all : List Step) (f : Follow 0 all to) where
   -- a search that goes on from an earlier place finds what one from the start does
   pub found_on : (j k : ℕ) → j ≤ k → slice_get (steps_past k (steps_past j all)) 0 ≡ find (covers k) all
-  found_on j k h = rw (past_again j k all h) (sym (found_past k 0 (length image) all follow (omega arith)))
+  found_on j k h = rw (past_again j k all h) (sym (found_past k 0 to all f (omega arith)))
 
   pub past_start : steps_past 0 all ≡ all
-  past_start = none_past 0 (length image) all follow
+  past_start = none_past 0 to all f

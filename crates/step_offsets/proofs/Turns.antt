@@ -1,15 +1,14 @@
 -- A turn of the walk: from the step for one address to that for the next. Assumes nothing.
-use Rattle.std.proofs.Common.{◌≡◌, ℕ, ◌+◌, ◌<◌, ◌≤◌, false, List, ◌∷◌, length, map, get_or, slice_get, find, Option, Some, None, Ok, add-one, sym, ◌∙◌}
+use Rattle.std.proofs.Common.{◌≡◌, ℕ, ◌+◌, ◌<◌, ◌≤◌, false, List, ◌∷◌, length, map, get_or, slice_get, find, Option, Some, None, add-one, sym, ◌∙◌}
 use Rattle.std.proofs.lemmas.List.{get_or-map, length-map}
-use Rattle.image.specs.Refusal.{refusal}
-use Rattle.steps.specs.Steps.{Step, covers, steps}
+use Rattle.steps.specs.Steps.{Step, Follow, covers, steps}
 use Rattle.step_offsets.specs.Offsets.{steps_past, falls, place_of, step_offset}
 use Rattle.step_offsets.proofs.Order.{rising}
 use Rattle.step_offsets.proofs.Places.{found_offset, found_on, past_again}
 
 -- address i, whose place is p: the steps that were left to the walk and those that are, and the step that it came to
 pub record Turn (image list : List ℕ) (base : ℕ) (addresses : List ℕ) (i p : ℕ) (was now : List Step) (r : Option Step) : Type 0 where
-  pub fine : refusal image list ≡ Ok tt
+  pub follow : Follow 0 (steps image list base 0) (length image)
   pub sorted : falls 0 (map (place_of base) addresses) ≡ false
   pub within : i < length addresses
   pub place_is : p ≡ place_of base (get_or addresses i 0)
@@ -36,7 +35,7 @@ module _ {image list : List ℕ} {base : ℕ} {addresses : List ℕ} {i p : ℕ}
 
   -- the walk comes to the step that a search finds
   comes : r ≡ find (covers p) all
-  comes = rw t.walked at t.found ∙ found_on image list base t.fine (get_or (0 ∷ places) i 0) p rise
+  comes = rw t.walked at t.found ∙ found_on (length image) all t.follow (get_or (0 ∷ places) i 0) p rise
 
   pub found_within : (s : Step) → r ≡ Some s → s.offset ≤ p
   found_within s e = (found_offset p s all (sym e ∙ comes)).1

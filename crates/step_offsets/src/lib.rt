@@ -3,8 +3,8 @@
 
 ghost use Rattle.std.specs.Prelude.{◌≡◌, ◌≤◌, ◌↔◌, ℕ, false, length, map, option_map, slice_get, IfOk, IsOk, Ok};
 ghost use Rattle.std.specs.List.Sorted.{IsNonDecreasing};
-ghost use Rattle.image.specs.Refusal.{refusal};
-ghost use Rattle.steps.specs.Steps.{steps};
+ghost use Rattle.image.specs.Refusal.{refusal, refusal_at};
+ghost use Rattle.steps.specs.Steps.{steps, Follow};
 ghost use Rattle.steps.specs.Walk.{listed_step, rest};
 ghost use Rattle.step_offsets.specs.Offsets.{falls, offsets, offsets_numbers, place_of, step_offsets, steps_past};
 ghost use Rattle.step_offsets.specs.Laws.{GivesAlone, GivesCovering, GivesNoneOutside, GivesNoneWithout, GivesStepInside};
@@ -50,10 +50,11 @@ fn seek<'a>(walk: &mut Walk<'a>, place: usize) -> Option<UnprintedStep<'a>>
 
 // The offsets for addresses whose places do not fall.
 fn offsets(image: Image, addresses: &[u32]) -> [u32; MOST_ADDRESSES]
-    requires fine { refusal image.bytes.now image.stretches.now ≡ Ok tt }
+    requires fine { refusal_at image.bytes.now image.stretches.now 0 ≡ Ok tt }
     requires few { length addresses.now ≤ 64 }
     requires sorted { falls 0 (map (place_of image.base) addresses.now) ≡ false }
-    ensures { result ≡ offsets image.entry.bytes.now image.entry.stretches.now image.entry.base addresses.now }
+    ensures value { result ≡ offsets image.entry.bytes.now image.entry.stretches.now image.entry.base addresses.now }
+    ensures follow { Follow 0 (steps image.entry.bytes.now image.entry.stretches.now image.entry.base 0) (length image.entry.bytes.now) }
 {
     let mut offsets = [NO_OFFSET; MOST_ADDRESSES];
     let mut walk = Walk::new(image, 0);

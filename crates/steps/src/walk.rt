@@ -1,8 +1,9 @@
 //! The steps of a listing one after another: an image, and the place in it that has been come to.
 
-ghost use Rattle.std.specs.Prelude.{◌≡◌, ◌+◌};
+ghost use Rattle.std.specs.Prelude.{◌≡◌, ◌+◌, length, Ok};
+ghost use Rattle.image.specs.Refusal.{refusal_at};
 ghost use Rattle.image.specs.Stretches.{Passed, pairs};
-ghost use Rattle.steps.specs.Steps.{span_bytes};
+ghost use Rattle.steps.specs.Steps.{span_bytes, Follow};
 
 use crate::{Listed, Span, span_here, step_at};
 use image::Image;
@@ -30,11 +31,14 @@ pub struct Walk<'a> {
 
 impl<'a> Walk<'a> {
     ghost use Rattle.steps.specs.Listed.{listed, next_place};
+    ghost use Rattle.steps.specs.Walk.{rest};
 
-    /// A walk over the steps of an image from a place on.
+    /// A walk over the steps of an image from a place on. From a place that is not refused they follow one another, without gap or overlap, to the image's end.
+    #[tactic(auto, using(crate::proofs::Steps::steps_follow))]
     pub fn new(image: Image<'a>, place: usize) -> Self
         ensures image { result.image ≡ image.entry }
         ensures place { result.place ≡ place }
+        ensures follow { refusal_at image.entry.bytes.now image.entry.stretches.now place ≡ Ok tt → Follow place (rest result) (length image.entry.bytes.now) }
     {
         Walk {
             image,

@@ -1,5 +1,6 @@
 -- `step_offsets::offsets` meets its contract. Assumes nothing.
-use Rattle.std.proofs.Common.{option_map, refl, ap, sym, arith}
+use Rattle.std.proofs.Common.{length, option_map, refl, ap, sym, arith}
+use Rattle.steps.specs.Steps.{Follow, steps}
 use Rattle.steps.specs.Walk.{listed_step}
 use Rattle.step_offsets.proofs.Places.{past_start}
 use Rattle.step_offsets.proofs.Turns.{Turn, found_number, found_within, no_number, walked_on}
@@ -10,16 +11,20 @@ use Rattle.step_offsets.proofs.offsets.Goals.{in-Some, in_default}
 pub loop-i-init : goal.loop-i-init
 loop-i-init c =
     let x = c.args.image in
+    let w = c.new-walk.ensures in
+    let f : Follow 0 (steps x.bytes.now x.stretches.now x.base 0) (length x.bytes.now) = rw (w.image, w.place) at (w.follow c.requires.fine) in
     record {
-      walked = rw (c.new-walk.ensures.image, c.new-walk.ensures.place) (sym (past_start x.bytes.now x.stretches.now x.base c.requires.fine));
+      follow = f;
+      walked = rw (w.image, w.place) (sym (past_start (length x.bytes.now) (steps x.bytes.now x.stretches.now x.base 0) f));
       given = refl;
     }
 
 pub overflow_cast-offsets : goal.overflow_cast-offsets
 overflow_cast-offsets c =
     let x = c.args.image in
+    let follow = c.loop-i.invariant.follow in
     let t : Turn x.bytes.now x.stretches.now x.base c.args.addresses.now c.loop-i.i c.place_of-place.result _ _ _ = record {
-      fine = c.requires.fine;
+      follow = follow;
       sorted = c.requires.sorted;
       within = c.loop-i-test.true;
       place_is = c.place_of-place.ensures;
@@ -33,8 +38,9 @@ overflow_cast-offsets c =
 pub loop-i-preserved : goal.loop-i-preserved
 loop-i-preserved c =
     let x = c.args.image in
+    let follow = c.loop-i.invariant.follow in
     let t : Turn x.bytes.now x.stretches.now x.base c.args.addresses.now c.loop-i.i c.place_of-place.result _ _ _ = record {
-      fine = c.requires.fine;
+      follow = follow;
       sorted = c.requires.sorted;
       within = c.loop-i-test.true;
       place_is = c.place_of-place.ensures;
@@ -43,6 +49,7 @@ loop-i-preserved c =
       left = c.seek.ensures.left;
     } in
     record {
+      follow = follow;
       walked = walked_on t;
       given =
           elim c.match-seek.branch [

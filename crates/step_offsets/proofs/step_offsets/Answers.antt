@@ -15,21 +15,21 @@ returns-then-falls-clause-accepted c =
 pub returns-clause-accepted : goal.returns-clause-accepted
 returns-clause-accepted c =
     let x = c.args.image in (
-      λ e. (sym c.check.ensures ∙ c.in_ok-check.was, omega arith, none_falls (map (place_of x.base) c.args.addresses.now) (sym c.falls.ensures ∙ c.if-falls.false)),
+      λ e. (sym c.check.ensures.answer ∙ c.in_ok-check.was, omega arith, none_falls (map (place_of x.base) c.args.addresses.now) (sym c.falls.ensures ∙ c.if-falls.false)),
       λ a. refl,
     )
 
 pub returns-clause-covering : goal.returns-clause-covering
 returns-clause-covering c =
     let x = c.args.image in
-    rw c.offsets.ensures (of_covering x.bytes.now x.stretches.now x.base c.args.addresses.now (sym c.check.ensures ∙ c.in_ok-check.was))
+    rw c.offsets.ensures.value (of_covering x.bytes.now x.stretches.now x.base c.args.addresses.now c.offsets.ensures.follow)
 
 pub returns-clause-inside : goal.returns-clause-inside
 returns-clause-inside c =
     let x = c.args.image in
-    rw c.offsets.ensures (of_inside x.bytes.now x.stretches.now x.base c.args.addresses.now (sym c.check.ensures ∙ c.in_ok-check.was))
+    rw c.offsets.ensures.value (of_inside x.bytes.now x.stretches.now x.base c.args.addresses.now c.offsets.ensures.follow)
 
 pub returns-clause-outside : goal.returns-clause-outside
 returns-clause-outside c =
     let x = c.args.image in
-    rw c.offsets.ensures (none_outside x.bytes.now x.stretches.now x.base c.args.addresses.now (sym c.check.ensures ∙ c.in_ok-check.was))
+    rw c.offsets.ensures.value (none_outside x.bytes.now x.stretches.now x.base c.args.addresses.now c.offsets.ensures.follow c.in_ok-check.ensures.short)
