@@ -230,8 +230,8 @@ fn write(values: &[u32], lent: &mut [u32])
     lent[..n].copy_from_slice(&values[..n]);
 }
 
-// For each address the offset of the step, in a listing of the image from its start, that it lies in: 64 numbers, written as far as there is room. The answer
-// is 0, or 6, 7, 10 or 11 and no offset at all.
+/// For each address the offset of the step, in a listing of the image from its start, that it lies in: 64 numbers, written as far as there is room. The answer
+/// is 0, or 6, 7, 10 or 11, and then no number is an offset.
 #[unsafe(no_mangle)]
 pub extern "C" fn silk_steps_at(
     image: &[u8],
