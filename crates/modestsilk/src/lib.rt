@@ -58,6 +58,19 @@ fn give<T: Copy>(answer: Result<T, Refusal>, none: T, value: &mut T) -> u32
     refusal_number(answer.err())
 }
 
+// An image that C lends: its bytes, its Thumb stretches and the address of its first byte.
+fn lent_image<'a>(image: &'a [u8], stretches: &'a [u8], base: u32) -> Image<'a>
+    ensures bytes { result.bytes.now ≡ image.now }
+    ensures stretches { result.stretches.now ≡ stretches.now }
+    ensures base { result.base ≡ base }
+{
+    Image {
+        bytes: image,
+        stretches,
+        base,
+    }
+}
+
 // The number of the kind of an ARM word.
 #[unsafe(no_mangle)]
 pub extern "C" fn silk_kind_arm(form: u32, word: u32) -> u32
@@ -187,11 +200,7 @@ pub extern "C" fn silk_list_step(
 ) -> u32
     ensures { numbers_of (list_step image.now stretches.now base place line.old) ≡ (result, offset.new, bytes.new, length.new, line.new) }
 {
-    let lent = Image {
-        bytes: image,
-        stretches,
-        base,
-    };
+    let lent = lent_image(image, stretches, base);
     match list_step(lent, place as usize, line) {
         Ok(s) => {
             *offset = s.offset() as u32;
@@ -242,11 +251,7 @@ pub extern "C" fn silk_steps_at(
 ) -> u32
     ensures { offsets_given (offsets_numbers (step_offsets image.now stretches.now base addresses.now)) offsets.old ≡ (result, offsets.new) }
 {
-    let lent = Image {
-        bytes: image,
-        stretches,
-        base,
-    };
+    let lent = lent_image(image, stretches, base);
     let none = [NO_OFFSET; MOST_ADDRESSES];
     let mut values = none;
     let number = give(step_offsets(lent, addresses), none, &mut values);

@@ -8,11 +8,13 @@ use Rattle.modestsilk.proofs.silk_list_step.Goals as goal
 pub overflow_cast-offset : goal.overflow_cast-offset
 overflow_cast-offset c =
     let a = c.args in
-    let h : listed_offset c.in-Ok.s ≤ a.place = (step_small a.image.now a.stretches.now a.base a.place a.line.now c.in-Ok.s _ (rw c.in-Ok.is at c.list_step.ensures)).0 in
+    let i = c.lent_image-lent.result in
+    let h : listed_offset c.in-Ok.s ≤ a.place = (step_small i.bytes.now i.stretches.now i.base a.place a.line.now c.in-Ok.s _ (rw c.in-Ok.is at c.list_step.ensures)).0 in
     record { fits = omega (arith, h, c.offset.ensures) }
 
 pub overflow_cast-bytes : goal.overflow_cast-bytes
 overflow_cast-bytes c =
     let a = c.args in
-    let h : listed_bytes c.in-Ok.s ≤ 4 = (step_small a.image.now a.stretches.now a.base a.place a.line.now c.in-Ok.s _ (rw c.in-Ok.is at c.list_step.ensures)).1 in
+    let i = c.lent_image-lent.result in
+    let h : listed_bytes c.in-Ok.s ≤ 4 = (step_small i.bytes.now i.stretches.now i.base a.place a.line.now c.in-Ok.s _ (rw c.in-Ok.is at c.list_step.ensures)).1 in
     record { fits = omega (arith, h, c.bytes.ensures) }
