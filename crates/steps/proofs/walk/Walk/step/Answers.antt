@@ -1,5 +1,5 @@
 -- `steps::walk::Walk::step` meets its contract. Assumes nothing.
-use Rattle.std.proofs.Common.{◌≡◌, ◌+◌, ◌-◌, ◌≤◌, length, sym, ◌∙◌, arith}
+use Rattle.std.proofs.Common.{◌≡◌, ◌-◌, ◌≤◌, length, sym, ◌∙◌, arith}
 use Rattle.image.specs.Stretches.{left}
 use Rattle.image.proofs.Stretches.{passed_on}
 use Rattle.steps.specs.Listed.{listed_bytes, listed_offset}
@@ -18,7 +18,7 @@ overflow_add-self c =
 pub invariant_of-self : goal.invariant_of-self
 invariant_of-self c =
     let w = c.args.self.now in
-    record { passed = rw c.first_left-next.ensures (passed_on w.image.stretches.now w.next w.place (w.place + c.bytes.result) w.passed (omega arith)) }
+    record { passed = rw c.first_left-next.ensures (passed_on w.image.stretches.now w.next w.place _ w.passed (omega arith)) }
 
 pub returns-clause-answer : goal.returns-clause-answer
 returns-clause-answer c =

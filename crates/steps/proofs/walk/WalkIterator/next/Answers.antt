@@ -21,7 +21,7 @@ returns-in_err-span-clause-steps c =
 pub invariant_of-self-2 : goal.invariant_of-self-2
 invariant_of-self-2 c =
     let w = c.args.self.now in
-    record { passed = rw c.first_left-self.ensures (passed_on w.image.stretches.now w.next w.place (w.place + c.bytes.result) w.passed (omega arith)) }
+    record { passed = rw c.first_left-self.ensures (passed_on w.image.stretches.now w.next w.place _ w.passed (omega arith)) }
 
 more : (c : goal.After-result-2-1) → let i = c.args.self.now.image in steps i.bytes.now i.stretches.now i.base c.args.self.now.place
     ≡ step_of i.bytes.now c.in_ok-span.span i.base c.args.self.now.place ∷ steps i.bytes.now i.stretches.now i.base (c.args.self.now.place + c.bytes.result)
