@@ -53,10 +53,6 @@ span_at image ss at = span_in image (set_at ss at) at
 abbrev pub has_step : List ℕ → List Stretch → ℕ → Bool
 has_step image ss at = nat_le (at + span_bytes (span_at image ss at)) (length image)
 
--- that span, or none where there is no step
-abbrev pub span_here : List ℕ → List Stretch → ℕ → Option Span
-span_here image ss at = cond (has_step image ss at) (Some (span_at image ss at)) None
-
 -- ".. and moves on by that length": the steps from a place on, at most as many as the fuel
 unfoldable pub steps_for : List ℕ → List Stretch → ℕ → ℕ → ℕ → List Step
 steps_for image ss base at zero = []
@@ -85,3 +81,8 @@ covers k s = nat_le s.offset k && nat_lt k (s.offset + s.bytes)
 unfoldable pub times : ℕ → List Step → ℕ
 times k [] = 0
 times k (s ∷ ss) = cond (covers k s) 1 0 + times k ss
+
+-- ---- for the contracts of inner functions
+-- the span at a place, or none where there is no step
+abbrev pub span_here : List ℕ → List Stretch → ℕ → Option Span
+span_here image ss at = cond (has_step image ss at) (Some (span_at image ss at)) None
