@@ -1,8 +1,8 @@
 // Printing ARM words: the refusals, and the line into a lent buffer.
 #![tactic(auto)]
 
-ghost use Rattle.std.specs.Prelude.{◌≡◌};
-ghost use Rattle.lines.specs.Answer.{printed};
+ghost use Rattle.std.specs.Prelude.{◌≡◌, ℕ};
+ghost use Rattle.lines.specs.Answer.{is_invalid, printed};
 ghost use Rattle.arm_disass.specs.Line.{line_of};
 ghost use Rattle.arm_disass.proofs.Lengths.{line_within};
 ghost use Rattle.arm_print.specs.Print.{prints_cond, is_halfword, is_test_opcode, lacks_cond, lacks_type, lacks_flags, answer_of, arm_line};
@@ -112,4 +112,17 @@ pub fn print_arm(form: Form, raw: u32, pc: u32, buf: &mut [u8]) -> Result<usize,
 {
     let fmt = arm_format(form, raw);
     print_format(ArmLine { form, fmt, pc, raw }, buf)
+}
+
+/// Whether a word shows no instruction in a form: its print is refused with 1, 2 or 9, or its line is `<Undefined>`. The address does not matter. By `|`, as
+/// `lacks_flags`.
+#[tactic(auto, using(crate::proofs::Shown::shown_invalid))]
+pub fn is_invalid(form: Form, raw: u32) -> bool
+    ensures { (pc : ℕ) → result ≡ is_invalid (arm_line form pc raw) }
+{
+    let kind = arm_format(form, raw);
+    lacks_cond(form, kind, raw)
+        | lacks_type(kind, raw)
+        | lacks_flags(form, kind, raw)
+        | matches!(kind, ArmFormat::Undefined)
 }

@@ -3,3 +3,4 @@ pub mod Positions
 pub mod Lengths
 pub mod Address
 pub mod Whole
+pub mod Named

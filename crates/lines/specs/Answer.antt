@@ -1,5 +1,8 @@
 -- What a print answers, and what the lent buffer holds then. Assumes nothing.
-use Rattle.std.specs.Prelude.{cond, List, ◌++◌, ℕ, ltb, length, drop, Result, Ok, Err}
+use Rattle.std.specs.Prelude.{Bool, ◌||◌, ◌==◌, cond, List, ◌++◌, ℕ, ltb, length, drop, Result, Ok, Err}
+use Rattle.common.specs.Lists.{same}
+use Rattle.text.specs.Text.{text}
+use Rattle.refusal.specs.Refusal.{number}
 use Rattle.refusal.specs.declared.Refusal.{Refusal}
 use Rattle.refusal.specs.declared.Refusal.TheVariants.{NoRoom}
 
@@ -7,6 +10,11 @@ use Rattle.refusal.specs.declared.Refusal.TheVariants.{NoRoom}
 pub data Answer : Type 0 where
   refused : Refusal → Answer
   line : List ℕ → Answer
+
+-- whether it shows no instruction: a word is refused with 1, 2 or 9, or its line is `<Undefined>`
+abbrev pub is_invalid : Answer → Bool
+is_invalid (refused r) = number r == 1 || (number r == 2 || number r == 9)
+is_invalid (line bs) = same bs (text "<Undefined>")
 
 -- "the number with length 0, the buffer untouched"
 abbrev pub refusal : Refusal → List ℕ → Result ℕ Refusal × List ℕ

@@ -1,8 +1,8 @@
 // Printing Thumb words: the line into a lent buffer.
 #![tactic(auto)]
 
-ghost use Rattle.std.specs.Prelude.{◌≡◌};
-ghost use Rattle.lines.specs.Answer.{printed};
+ghost use Rattle.std.specs.Prelude.{◌≡◌, ℕ};
+ghost use Rattle.lines.specs.Answer.{is_invalid, printed};
 ghost use Rattle.thumb_disass.specs.Line.{line_of};
 ghost use Rattle.thumb_disass.proofs.Lengths.{line_within};
 ghost use Rattle.thumb_print.specs.Print.{thumb_line};
@@ -42,4 +42,12 @@ pub fn print_thumb(form: Form, raw: u16, pc: u32, buf: &mut [u8]) -> Result<usiz
     let fmt = word_kind(form, raw);
     let raw = u32::from(raw);
     print_line(&ThumbLine { form, fmt, pc, raw }, buf)
+}
+
+/// Whether a word shows no instruction in a form: its line is `<Undefined>`. The address does not matter.
+#[tactic(auto, using(crate::proofs::Shown::shown_invalid))]
+pub fn is_invalid(form: Form, raw: u16) -> bool
+    ensures { (pc : ℕ) → result ≡ is_invalid (thumb_line form pc raw) }
+{
+    matches!(word_kind(form, raw), ThumbFormat::Undefined)
 }
