@@ -1,20 +1,17 @@
 -- A line is `<Undefined>` exactly if the kind is: all others begin with a name. Assumes nothing.
 use Rattle.std.proofs.Common.{◌≡◌, eqb, ℕ, refl}
-use Rattle.common.specs.Bits.{bit, bit_range}
+use Rattle.common.specs.Bits.{bit}
 use Rattle.common.specs.Lists.{same}
 use Rattle.text.specs.Text.{text}
 use Rattle.lines.specs.Pieces.{either}
 use Rattle.lines.proofs.Named.{Named, ◌&◌, not_undefined}
-use Rattle.arm7tdmi.specs.Alu.{alu_op_code}
 use Rattle.arm7tdmi.specs.declared.Form.{Form}
 use Rattle.arm7tdmi.specs.declared.alu.AluOpCode.{AluOpCode}
 use Rattle.arm7tdmi.specs.declared.alu.AluOpCode.TheVariants as Op
 use Rattle.arm7tdmi.specs.declared.alu.BarrelShifterValue.{BarrelShifterValue}
-use Rattle.arm.specs.Fields.{ldr_str_hs_imm_offset, ldr_str_hs_reg_offset, operand2}
 use Rattle.arm.specs.Kinds.{arm_number}
 use Rattle.arm.specs.declared.ArmFormat.{ArmFormat}
 use Rattle.arm.specs.declared.ArmFormat.TheVariants as A
-use Rattle.arm_operand.specs.Operand.{fmt_operand2}
 use Rattle.arm_disass.specs.Line.{fmt_branch, fmt_bx, fmt_data_processing, fmt_halfword, fmt_ldm_stm, fmt_ldr_str, fmt_ldr_str_hs_imm_offset, fmt_ldr_str_hs_reg_offset, fmt_move, fmt_mrs, fmt_msr, fmt_msr_flags, fmt_mul_mla, fmt_mull_mlal, fmt_opcode, fmt_swi, fmt_swp, fmt_test, fmt_three, line_of, op_text}
 use Rattle.common.proofs.Tests.{by_test}
 
@@ -49,9 +46,9 @@ undefined_line form A.SoftwareInterrupt pc raw = refl
 undefined_line form A.Multiply pc raw = by_test (bit raw 21) (λ t. rw t) (λ t. rw t)
 undefined_line form A.MultiplyLong pc raw = by_test (bit raw 22) (λ t. rw t) (λ t. rw t)
 undefined_line form A.SingleDataTransfer pc raw = by_test (bit raw 20) (λ t. rw t) (λ t. rw t)
-undefined_line form A.HalfwordDataTransferRegOffset pc raw = not_undefined (halfword form pc raw (ldr_str_hs_reg_offset raw))
-undefined_line form A.HalfwordDataTransferImmediateOffset pc raw = not_undefined (halfword form pc raw (ldr_str_hs_imm_offset raw))
-undefined_line form A.DataProcessing pc raw = not_undefined (opcode form raw (alu_op_code (bit_range raw 21 25)) & fmt_operand2 form (operand2 raw))
+undefined_line form A.HalfwordDataTransferRegOffset pc raw = not_undefined (halfword form pc raw _)
+undefined_line form A.HalfwordDataTransferImmediateOffset pc raw = not_undefined (halfword form pc raw _)
+undefined_line form A.DataProcessing pc raw = not_undefined (opcode form raw _ & _)
 undefined_line form A.BlockDataTransfer pc raw = by_test (bit raw 20) (λ t. rw t) (λ t. rw t)
 undefined_line form A.SingleDataSwap pc raw = refl
 undefined_line form A.MoveFromStatus pc raw = refl

@@ -1,4 +1,4 @@
--- Texts that begin with another byte than `<`, as all lines but `<Undefined>` do. Assumes nothing.
+-- Texts that begin with another byte than `<`: each line but `<Undefined>` does. Assumes nothing.
 use Rattle.std.proofs.Common.{◌≡◌, Bool, true, false, cond, not, eqb, List, [], ◌∷◌, ◌++◌, ℕ, refl, sym, true≢false}
 use borrow.Author.Tests.{not-true}
 use Rattle.common.specs.Lists.{same}

@@ -1,16 +1,13 @@
 -- A line is `<Undefined>` exactly if the kind is: all others begin with a name. Assumes nothing.
 use Rattle.std.proofs.Common.{◌≡◌, eqb, ℕ, refl}
-use Rattle.common.specs.Bits.{bit, bit_range}
+use Rattle.common.specs.Bits.{bit}
 use Rattle.common.specs.Lists.{same}
 use Rattle.text.specs.Text.{text}
-use Rattle.text.specs.Digits.{dec, prefixed}
-use Rattle.lines.specs.Pieces.{either, reg_at}
+use Rattle.lines.specs.Pieces.{either}
 use Rattle.lines.proofs.Named.{Named, ◌&◌, not_undefined, of_two}
-use Rattle.arm7tdmi.specs.Alu.{barrel_shift_op_code}
 use Rattle.arm7tdmi.specs.declared.Form.{Form}
 use Rattle.arm7tdmi.specs.declared.alu.BarrelShiftOpCode.{BarrelShiftOpCode}
 use Rattle.arm7tdmi.specs.declared.alu.BarrelShiftOpCode.TheVariants as Shift
-use Rattle.thumb.specs.Fields.{op_format3, op_format5, thumb_alu_op}
 use Rattle.thumb.specs.Kinds.{thumb_number}
 use Rattle.thumb.specs.declared.OpFormat3.{OpFormat3}
 use Rattle.thumb.specs.declared.OpFormat3.TheVariants as Three
@@ -20,8 +17,7 @@ use Rattle.thumb.specs.declared.ThumbAluOps.{ThumbAluOps}
 use Rattle.thumb.specs.declared.ThumbAluOps.TheVariants as Op
 use Rattle.thumb.specs.declared.ThumbFormat.{ThumbFormat}
 use Rattle.thumb.specs.declared.ThumbFormat.TheVariants as H
-use Rattle.thumb_operand.specs.Operand.{high_operands}
-use Rattle.thumb_disass.specs.Line.{alu_op_text, fmt_thumb_add_sp, fmt_thumb_add_sub, fmt_thumb_alu_ops, fmt_thumb_branch, fmt_thumb_branch_long_with_link, fmt_thumb_branch_with_cond, fmt_thumb_data_process_imm, fmt_thumb_high_reg_op_or_bx, fmt_thumb_ldm_stm, fmt_thumb_ldr_pc, fmt_thumb_ldr_str_halfword, fmt_thumb_ldr_str_imm_offset, fmt_thumb_ldr_str_reg_offset, fmt_thumb_ldr_str_shb, fmt_thumb_ldr_str_sp, fmt_thumb_load_address, fmt_thumb_move_shifted_reg, fmt_thumb_push_pop, fmt_thumb_swi, line_of, op3_text, op5_text, shb_text, shift_places, shift_text}
+use Rattle.thumb_disass.specs.Line.{alu_op_text, fmt_thumb_add_sp, fmt_thumb_add_sub, fmt_thumb_alu_ops, fmt_thumb_branch, fmt_thumb_branch_long_with_link, fmt_thumb_branch_with_cond, fmt_thumb_data_process_imm, fmt_thumb_high_reg_op_or_bx, fmt_thumb_ldm_stm, fmt_thumb_ldr_pc, fmt_thumb_ldr_str_halfword, fmt_thumb_ldr_str_imm_offset, fmt_thumb_ldr_str_reg_offset, fmt_thumb_ldr_str_shb, fmt_thumb_ldr_str_sp, fmt_thumb_load_address, fmt_thumb_move_shifted_reg, fmt_thumb_push_pop, fmt_thumb_swi, line_of, op3_text, op5_text, shb_text, shift_text}
 use Rattle.common.proofs.Tests.{by_test}
 
 shift : (op : BarrelShiftOpCode) → Named (shift_text op)
@@ -73,14 +69,14 @@ shb raw =
 
 pub undefined_line : (form : Form) (fmt : ThumbFormat) (pc raw : ℕ) → same (line_of form fmt pc raw) (text "<Undefined>") ≡ eqb (thumb_number fmt) 19
 unfolding line_of same fmt_thumb_move_shifted_reg fmt_thumb_data_process_imm fmt_thumb_alu_ops fmt_thumb_high_reg_op_or_bx fmt_thumb_ldr_pc fmt_thumb_ldr_str_reg_offset fmt_thumb_ldr_str_shb fmt_thumb_ldr_str_imm_offset fmt_thumb_ldr_str_halfword fmt_thumb_ldr_str_sp fmt_thumb_load_address fmt_thumb_add_sub fmt_thumb_add_sp fmt_thumb_push_pop fmt_thumb_ldm_stm fmt_thumb_branch_with_cond fmt_thumb_swi fmt_thumb_branch fmt_thumb_branch_long_with_link either
-undefined_line form H.MoveShiftedReg pc raw = not_undefined (shift (barrel_shift_op_code (bit_range raw 11 13)) & text "\t" & reg_at raw 0 3 & text ", " & reg_at raw 3 6 & text ", #" & dec (shift_places form raw))
+undefined_line form H.MoveShiftedReg pc raw = not_undefined (shift _ & _ & _ & _ & _ & _ & _)
 undefined_line form H.AddSub pc raw = by_test (bit raw 9) (λ t. rw t) (λ t. rw t)
-undefined_line form H.DataProcessImm pc raw = not_undefined (op3 (op_format3 (bit_range raw 11 13)) & text "\t" & reg_at raw 8 11 & text ", #" & prefixed 1 (bit_range raw 0 8))
-undefined_line form H.AluOps pc raw = not_undefined (alu (thumb_alu_op (bit_range raw 6 10)) & text "\t" & reg_at raw 0 3 & text ", " & reg_at raw 3 6)
-undefined_line form H.HiRegOpOrBranchExchange pc raw = not_undefined (op5 (op_format5 (bit_range raw 8 10)) & text "\t" & high_operands form raw (op_format5 (bit_range raw 8 10)))
+undefined_line form H.DataProcessImm pc raw = not_undefined (op3 _ & _ & _ & _ & _)
+undefined_line form H.AluOps pc raw = not_undefined (alu _ & _ & _ & _ & _)
+undefined_line form H.HiRegOpOrBranchExchange pc raw = not_undefined (op5 _ & _ & _)
 undefined_line form H.LdrPc pc raw = refl
 undefined_line form H.LdrStrRegOffset pc raw = by_test (bit raw 11) (λ t. rw t) (λ t. rw t)
-undefined_line form H.LdrStrSHB pc raw = not_undefined (shb raw & text "\t" & reg_at raw 0 3 & text ", [" & reg_at raw 3 6 & text ", " & reg_at raw 6 9 & text "]")
+undefined_line form H.LdrStrSHB pc raw = not_undefined (shb raw & _ & _ & _ & _ & _ & _ & _)
 undefined_line form H.LdrStrImmOffset pc raw = by_test (bit raw 11) (λ t. rw t) (λ t. rw t)
 undefined_line form H.LdrStrHalfWord pc raw = by_test (bit raw 11) (λ t. rw t) (λ t. rw t)
 undefined_line form H.LdrStrSp pc raw = by_test (bit raw 11) (λ t. rw t) (λ t. rw t)
