@@ -69,13 +69,21 @@
  * fewer; what is behind the 64th keeps its value. One walk over the steps serves all
  * addresses, and prints nothing.
  *
+ * silk_worst_run tells where data that is taken for code crowds an image. A run is 256
+ * consecutive steps of a listing from place 0, or all of them where there are fewer. A
+ * step shows no instruction where its word is refused with 1, 2 or 9, or where its line
+ * is <Undefined>, in ARM and in Thumb. The largest number of such steps in one run goes
+ * through count, and the offset of the first step of the first run that has so many
+ * through offset; where none has any, and of an image of 0 bytes, both are 0. The answer
+ * is 0, or 6 or 7 as above, and then both numbers are 0. Nothing is printed.
+ *
  * What the pointers must be: line points to capacity bytes (a print) or length
  * bytes (a read or a patch), halfwords and addresses to count of theirs, offsets to
  * capacity of them, image and stretches to as many bytes as their lengths say, and
- * may be NULL where that number is 0; length, word, first, second, index, offset and
- * bytes point to memory for one value each, and are never NULL. What a call writes to
- * must not overlap anything else that it is given, nor be used by another call at that
- * time. The functions keep no state, so any thread may call them.
+ * may be NULL where that number is 0; length, word, first, second, index, offset, bytes
+ * and, in silk_worst_run, count point to memory for one value each, and are never NULL.
+ * What a call writes to must not overlap anything else that it is given, nor be used by
+ * another call at that time. The functions keep no state, so any thread may call them.
  *
  * Link with crates/modestsilk/out/libmodestsilk.a (rt lib, in crates/modestsilk).
  */
@@ -157,6 +165,8 @@ uint32_t silk_patch(uint8_t *image, size_t image_length, const uint8_t *stretche
 
 uint32_t silk_steps_at(const uint8_t *image, size_t image_length, const uint8_t *stretches, size_t stretches_length, uint32_t base,
                        const uint32_t *addresses, size_t count, uint32_t *offsets, size_t capacity);
+
+uint32_t silk_worst_run(const uint8_t *image, size_t image_length, const uint8_t *stretches, size_t stretches_length, uint32_t *count, uint32_t *offset);
 
 #ifdef __cplusplus
 }

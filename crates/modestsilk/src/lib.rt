@@ -2,7 +2,7 @@
 // ARM and of Thumb are two; and what C lends comes in parameters of its own, with what is answered behind pointers.
 #![tactic(auto)]
 
-ghost use Rattle.std.specs.Prelude.{◌≡◌};
+ghost use Rattle.std.specs.Prelude.{◌≡◌, ℕ};
 ghost use Rattle.lines.specs.Answer.{printed};
 ghost use Rattle.arm.specs.Kinds.{arm_format, arm_number};
 ghost use Rattle.thumb.specs.Kinds.{thumb_format, thumb_number};
@@ -17,6 +17,7 @@ ghost use Rattle.pairs.specs.Run.{pairing_index, pairing_number, unpaired};
 ghost use Rattle.steps.specs.Listed.{list_step};
 ghost use Rattle.patch.specs.Patch.{patched};
 ghost use Rattle.step_offsets.specs.Offsets.{offsets_numbers, step_offsets};
+ghost use Rattle.worst_run.specs.Worst.{run_numbers, worst_run};
 ghost use Rattle.modestsilk.specs.Numbers.{form_of, given, numbers_of, offsets_given, patched_numbers, printed_numbers, refusal_number, written};
 
 use arm::arm_format;
@@ -35,6 +36,7 @@ use thumb::thumb_format;
 use thumb_print::print_thumb;
 use thumb_read::read_thumb;
 use thumb_top::top_kind;
+use worst_run::worst_run;
 
 // The form of a number: 0 is the bench, any other the sheet. That is what C says by a number, so it is no conversion of `Form` itself.
 fn form_of(n: u32) -> Form
@@ -257,4 +259,29 @@ pub extern "C" fn silk_steps_at(
     let number = give(step_offsets(lent, addresses), none, &mut values);
     write(&values, offsets);
     number
+}
+
+/// The largest number of steps that show no instruction, over all runs of 256 consecutive steps in a listing of the image from its start, and the offset of the
+/// first run that reaches it, behind the pointers. The answer is 0, or 6 or 7 with both numbers 0.
+#[unsafe(no_mangle)]
+pub extern "C" fn silk_worst_run(
+    image: &[u8],
+    stretches: &[u8],
+    count: &mut u32,
+    offset: &mut u32,
+) -> u32
+    ensures { (base : ℕ) → run_numbers (worst_run image.now stretches.now base) ≡ (result, count.new, offset.new) }
+{
+    match worst_run(lent_image(image, stretches, 0)) {
+        Ok(run) => {
+            *count = run.count as u32;
+            *offset = run.offset as u32;
+            0
+        }
+        Err(refusal) => {
+            *count = 0;
+            *offset = 0;
+            u32::from(refusal)
+        }
+    }
 }
