@@ -72,6 +72,8 @@ impl<'a> Iterator for Walk<'a> {
 
     ghost remaining = { item_count rest };
 
+    // Each loop over a walk has it in its own place, where a step need not go through memory.
+    #[inline(always)]
     fn next(&mut self) -> Option<UnprintedStep<'a>> {
         self.next = self.image.first_left(self.next, self.place);
         let span = span_here(self.image, self.next, self.place)?;

@@ -1,3 +1,4 @@
 pub mod Listings
 pub mod Patches
 pub mod Addresses
+pub mod WorstRuns
