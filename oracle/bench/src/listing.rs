@@ -20,6 +20,9 @@ const LISTINGS: u32 = 500;
 /// Asks the program for the prints alone.
 const ALONE: u32 = 1 << 31;
 
+/// Numbers of stretches in the images of a table.
+pub const SPREADS: [usize; 4] = [0, 1, 100, 8192];
+
 /// Bytes of the longest line.
 pub const LINE: usize = 80;
 
@@ -35,7 +38,7 @@ pub enum Span {
 }
 
 /// So many stretches, equally spread, that cover half of the image, or none.
-pub fn spread(count: usize) -> Vec<Stretch> {
+fn spread(count: usize) -> Vec<Stretch> {
     let share = |words: usize, i: usize| 4 * (words * i / count);
     (0..count)
         .map(|i| {
@@ -45,16 +48,21 @@ pub fn spread(count: usize) -> Vec<Stretch> {
         .collect()
 }
 
-/// An image of random words that print, and in its stretches of random
-/// halfwords.
-pub fn random_image(stretches: &[Stretch]) -> Vec<u8> {
-    let mut line = [0; LINE];
-    let mut image: Vec<u8> = (0..)
+/// An image of random words that fit.
+pub fn random_words(mut fits: impl FnMut(u32) -> bool) -> Vec<u8> {
+    (0..)
         .map(|place| silk::random(place) as u32)
-        .filter(|&word| silk::print_arm(SHEET, word, 0, &mut line).0 == 0)
+        .filter(|&word| fits(word))
         .take(IMAGE / 4)
         .flat_map(u32::to_le_bytes)
-        .collect();
+        .collect()
+}
+
+/// An image of random words that print, and in its stretches of random
+/// halfwords.
+fn random_image(stretches: &[Stretch]) -> Vec<u8> {
+    let mut line = [0; LINE];
+    let mut image = random_words(|word| silk::print_arm(SHEET, word, 0, &mut line).0 == 0);
     for &(offset, length) in stretches {
         for (byte, place) in image[offset..][..length].iter_mut().zip(offset..) {
             *byte = (silk::random(place as u64) >> 56) as u8;
@@ -64,7 +72,7 @@ pub fn random_image(stretches: &[Stretch]) -> Vec<u8> {
 }
 
 /// The list of stretches as the library takes it.
-pub fn list_of(stretches: &[Stretch]) -> Vec<u8> {
+fn list_of(stretches: &[Stretch]) -> Vec<u8> {
     stretches
         .iter()
         .flat_map(|&(offset, length)| [offset as u32, length as u32])
@@ -108,16 +116,58 @@ pub fn print(span: Span, address: u32, line: &mut [u8]) -> (u32, usize) {
 }
 
 /// All steps of an image, each with its address, which print what it lists.
-pub fn steps_of(image: &[u8], stretches: &[Stretch]) -> Vec<(Span, u32)> {
+fn steps_of(image: &[u8], stretches: &[Stretch]) -> Vec<(Span, u32)> {
     let mut steps = Vec::new();
     list(image, &list_of(stretches), |step, line| {
         let span = span_of(image, stretches, step);
         let mut alone = [0; LINE];
         let answer = print(span, step.offset, &mut alone);
-        assert_eq!((answer, &alone[..answer.1]), ((0, line.len()), line));
+        let listed = (step.number, line.len());
+        assert_eq!((answer, &alone[..answer.1]), (listed, line));
         steps.push((span, step.offset));
     });
     steps
+}
+
+/// An image, its list of stretches, and the steps of its listing.
+pub struct Listed {
+    pub image: Vec<u8>,
+    pub list: Vec<u8>,
+    pub steps: Vec<(Span, u32)>,
+}
+
+impl Listed {
+    pub fn new(image: Vec<u8>, stretches: &[Stretch]) -> Listed {
+        Listed {
+            list: list_of(stretches),
+            steps: steps_of(&image, stretches),
+            image,
+        }
+    }
+
+    /// A random image with so many stretches.
+    pub fn random(count: usize) -> Listed {
+        let stretches = spread(count);
+        Listed::new(random_image(&stretches), &stretches)
+    }
+
+    /// How many stretches the image has.
+    pub fn stretches(&self) -> usize {
+        self.list.len() / 8
+    }
+
+    /// Lists the image by `silk_list_step`.
+    pub fn list_steps(&self) {
+        list(&self.image, &self.list, |step, _| _ = black_box(step));
+    }
+
+    /// Prints the lines of the listing alone.
+    pub fn print_steps(&self) {
+        let mut line = [0; LINE];
+        for &(span, address) in &self.steps {
+            black_box(print(span, address, &mut line));
+        }
+    }
 }
 
 /// A letter for what a step prints, as the program takes it.
@@ -149,12 +199,8 @@ fn run(program: &str, input: &Path, steps: usize) {
 
 /// The least nanoseconds for a step of the program's listing, and of its prints
 /// alone, each without the program's start.
-fn by_program(
-    program: &str,
-    image: &[u8],
-    list: &[u8],
-    steps: &[(Span, u32)],
-) -> io::Result<(f64, f64)> {
+fn by_program(program: &str, listed: &Listed) -> io::Result<(f64, f64)> {
+    let Listed { image, list, steps } = listed;
     let letters: Vec<u8> = steps.iter().map(|step| letter(step.0)).collect();
     let many = input(LISTINGS, image, list)?;
     let one = input(1, image, list)?;
@@ -175,23 +221,16 @@ fn by_program(
 
 /// The least nanoseconds for a step of a listing by `silk_list_step`, and of
 /// the library's prints alone.
-fn by_library(image: &[u8], stretches: &[u8], steps: &[(Span, u32)]) -> (f64, f64) {
-    let listings = LISTINGS as usize / (stretches.len() / 8 + 1) + 1;
-    let mut line = [0; LINE];
-    let mut prints = || {
-        for &(span, address) in steps {
-            black_box(print(span, address, &mut line));
-        }
-    };
+fn by_library(listed: &Listed) -> (f64, f64) {
+    let listings = LISTINGS as usize / (listed.stretches() + 1) + 1;
     let mut least = Least::NONE;
     for _ in 0..PASSES {
-        let listing = |_| list(image, stretches, |step, _| _ = black_box(step));
         least.time(
-            || (0..listings).for_each(listing),
-            || (0..listings).for_each(|_| prints()),
+            || (0..listings).for_each(|_| listed.list_steps()),
+            || (0..listings).for_each(|_| listed.print_steps()),
         );
     }
-    let each = 1e9 / (listings * steps.len()) as f64;
+    let each = 1e9 / (listings * listed.steps.len()) as f64;
     (each * least.0, each * least.1)
 }
 
@@ -201,20 +240,17 @@ pub fn table(program: &str) -> io::Result<()> {
         "\n| listing | stretches | steps | listing, ns a step | prints alone, ns | listing / prints |"
     );
     println!("|---|---|---|---|---|---|");
-    for count in [0, 1, 100, 8192] {
-        let stretches = spread(count);
-        let image = random_image(&stretches);
-        let list = list_of(&stretches);
-        let steps = steps_of(&image, &stretches);
+    for count in SPREADS {
+        let listed = Listed::random(count);
         let row = |name: &str, (listing, prints): (f64, f64)| {
             let ratio = listing / prints;
             println!(
                 "| {name} | {count} | {} | {listing:.1} | {prints:.1} | {ratio:.2} |",
-                steps.len()
+                listed.steps.len()
             );
         };
-        row("Listing::step", by_program(program, &image, &list, &steps)?);
-        row("silk_list_step", by_library(&image, &list, &steps));
+        row("Listing::step", by_program(program, &listed)?);
+        row("silk_list_step", by_library(&listed));
     }
     Ok(())
 }

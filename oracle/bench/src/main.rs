@@ -3,6 +3,7 @@
 //! the two row programs and the program that lists an image, if they are at
 //! these paths.
 
+mod blocks;
 mod listing;
 mod patch;
 mod steps_at;

@@ -4,7 +4,7 @@ use std::hint::black_box;
 
 use silk::SHEET;
 
-use crate::listing::{LINE, Span, list_of, print, random_image, spread, steps_of};
+use crate::listing::{LINE, Listed, SPREADS, Span, print};
 use crate::{Least, PASSES};
 
 /// Words of an image that are patched in one pass, at most.
@@ -60,11 +60,10 @@ fn measure(image: &mut [u8], list: &[u8], words: &[Word]) -> (f64, f64) {
 pub fn table() {
     println!("\n| patch | stretches | patch, ns | read alone, ns | patch / read |");
     println!("|---|---|---|---|---|");
-    for count in [0, 1, 100, 8192] {
-        let stretches = spread(count);
-        let mut image = random_image(&stretches);
-        let words = words_of(&steps_of(&image, &stretches));
-        let (patch, read) = measure(&mut image, &list_of(&stretches), &words);
+    for count in SPREADS {
+        let mut listed = Listed::random(count);
+        let words = words_of(&listed.steps);
+        let (patch, read) = measure(&mut listed.image, &listed.list, &words);
         let ratio = patch / read;
         println!("| silk_patch | {count} | {patch:.1} | {read:.1} | {ratio:.2} |");
     }
