@@ -86,6 +86,14 @@ mod c {
             offsets: *mut u32,
             capacity: usize,
         ) -> u32;
+        pub fn silk_worst_run(
+            image: *const u8,
+            image_length: usize,
+            stretches: *const u8,
+            stretches_length: usize,
+            count: *mut u32,
+            offset: *mut u32,
+        ) -> u32;
     }
 }
 
@@ -241,6 +249,24 @@ pub fn steps_at(
             offsets.len(),
         )
     }
+}
+
+/// Lends the image and its stretches; gives the number, and the count and the
+/// offset of the worst run.
+pub fn worst_run(image: &[u8], stretches: &[u8]) -> (u32, u32, u32) {
+    let (mut count, mut offset) = (u32::MAX, u32::MAX);
+    // SAFETY: all are lent for the call alone.
+    let number = unsafe {
+        c::silk_worst_run(
+            image.as_ptr(),
+            image.len(),
+            stretches.as_ptr(),
+            stretches.len(),
+            &mut count,
+            &mut offset,
+        )
+    };
+    (number, count, offset)
 }
 
 /// splitmix64: the random number at a place of its sequence.
