@@ -7,6 +7,7 @@ mod blocks;
 mod listing;
 mod patch;
 mod steps_at;
+mod worst_run;
 
 use std::env;
 use std::fmt::{Display, Write as _};
@@ -328,6 +329,7 @@ fn main() -> io::Result<()> {
     run_of_pairs(&calls);
     patch::table();
     steps_at::table();
+    worst_run::table();
 
     let programs: Vec<String> = env::args().skip(1).collect();
     let [ours, rust, listing] = &programs[..] else {
