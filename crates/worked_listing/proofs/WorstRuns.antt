@@ -1,7 +1,6 @@
 -- The worst runs of the table are what the definitions give. Assumes nothing.
 use Rattle.std.proofs.Common.{◌≡◌, map, refl}
 use Rattle.common.specs.Lists.{same}
-use Rattle.arm.specs.Fields as Arm
 use Rattle.arm.specs.Kinds.{arm_rows}
 use Rattle.arm_disass.specs.Line as ALine
 use Rattle.arm_print.specs.Print as APrint

@@ -1,4 +1,4 @@
-// The worked listings, patches and addresses. Each row of standard input is shown on standard output, with what it gives under it.
+// The worked listings, patches, addresses and worst runs. Each row of standard input is shown on standard output, with what it gives under it.
 //
 // A row of a listing has, with spaces between them: the base and the place, in hexadecimal; how many bytes of buffer are lent; how often the bytes of the
 // image are repeated; these bytes, and those of the list of stretches, in hexadecimal, or none; and a title. A step is shown by its offset, its byte length
@@ -6,7 +6,7 @@
 //
 // The rows under it go on with that image. `patch`, an offset of eight digits and a sheet line: shown by the patch's number, and all bytes of the image then.
 // `resume`, an offset and a title: shown by the steps from there on. `find` and some addresses of eight digits each: shown by 0 and the offset of the step that
-// each lies in, or none, or by ! and a refusal's number.
+// each lies in, or none, or by ! and a refusal's number. `worst`: shown by 0, the count and the offset of the worst run, or by ! and a refusal's number.
 #![tactic(auto, unfolding(text::specs::Puts::puts))]
 
 ghost use Rattle.std.specs.Prelude.{◌≡◌, ◌≤◌};
@@ -21,6 +21,7 @@ use step_offsets::{MOST_ADDRESSES, NO_OFFSET, step_offsets};
 use steps::{Listed, list_step};
 use text::put::{Writer, part};
 use text::read::{first_word, next_word, read_number};
+use worst_run::worst_run;
 
 // Room for the longest image of the cases, and for what a case shows.
 const IMAGE: usize = 65540;
@@ -57,6 +58,7 @@ enum Row<'a> {
     Find {
         addresses: &'a [u8],
     },
+    Worst,
 }
 
 impl<'a> Row<'a> {
@@ -70,6 +72,7 @@ impl<'a> Row<'a> {
             },
             b"resume" => Row::Resume { place },
             b"find" => Row::Find { addresses: rest },
+            b"worst" => Row::Worst,
             base => Row::listing(base, place, next_word(rest)),
         }
     }
@@ -303,6 +306,22 @@ fn put_found(out: &mut Writer<'_>, image: Image, digits: &[u8])
     put_offsets(out, step_offsets(image, &addresses[..count]), count);
 }
 
+// The count and the offset of the worst run, or a refusal, as a line.
+fn put_worst(out: &mut Writer<'_>, image: Image)
+    ensures { out.new.bytes.ghost_name ≡ out.old.bytes.ghost_name }
+{
+    match worst_run(image) {
+        Ok(run) => {
+            out.put_text(b"0 ");
+            out.put_dec(run.count as u32);
+            out.put_byte(b' ');
+            out.put_dec(run.offset as u32);
+            out.put_byte(b'\n');
+        }
+        Err(refusal) => put_refusal(out, refusal),
+    }
+}
+
 // A row, and what it gives under it.
 fn put_row(out: &mut Writer<'_>, row: &[u8], case: &mut Case)
     ensures { out.new.bytes.ghost_name ≡ out.old.bytes.ghost_name }
@@ -329,6 +348,7 @@ fn put_row(out: &mut Writer<'_>, row: &[u8], case: &mut Case)
         }
         Row::Resume { place } => put_steps(out, case.lent(), place, LINE),
         Row::Find { addresses } => put_found(out, case.lent(), addresses),
+        Row::Worst => put_worst(out, case.lent()),
     }
 }
 
