@@ -297,12 +297,22 @@ static void give(size_t count, size_t cut)
     image.stretches_size = size;
 }
 
-/* Random stretches, many of them touching. */
-static size_t random_pairs(void)
+/* One stretch, from the image's start on. */
+static void give_one(uint32_t length)
 {
-    uint32_t words = (uint32_t)(image.size / 4), longest = 1 + below(8), at = 0;
+    pairs[0] = 0;
+    pairs[1] = length;
+    give(1, 0);
+    look();
+}
+
+/* Random stretches of up to so many words, many of them touching. The list ends behind
+ * `many` of them on average, or where the image does. */
+static size_t random_stretches(uint32_t longest, uint32_t many)
+{
+    uint32_t words = (uint32_t)(image.size / 4), at = 0;
     size_t count = 0;
-    while (at < words && below(16) != 0) {
+    while (at < words && below(many) != 0) {
         at += below(2) == 0 ? 0 : below(longest);
         uint32_t length = 1 + below(longest);
         if (at + length > words) {
@@ -316,16 +326,34 @@ static size_t random_pairs(void)
     return count;
 }
 
+/* A few short ones. */
+static size_t random_pairs(void)
+{
+    return random_stretches(1 + below(8), 16);
+}
+
+/* The halves of a call, the first below. */
+static uint32_t random_call(void)
+{
+    return 0xf800f000 | (random_number() & 0x07ff07ff);
+}
+
+/* Calls across many of the ends of the first `count` stretches. */
+static void cross(size_t count)
+{
+    for (size_t i = 0; i < count; i++) {
+        if (below(2) == 0) {
+            put(pairs[2 * i] + pairs[2 * i + 1] - 2, random_call(), 4);
+        }
+    }
+}
+
 /* A valid image; call pairs lie across many of the borders. */
 static void random_image(uint32_t most)
 {
     open_image(4 * below(most / 4 + 1));
     size_t count = random_pairs();
-    for (size_t i = 0; i < count; i++) {
-        if (below(2) == 0) {
-            put(pairs[2 * i] + pairs[2 * i + 1] - 2, 0xf800f000 | (random_number() & 0x07ff07ff), 4);
-        }
-    }
+    cross(count);
     give(count, 0);
     look();
 }
@@ -398,6 +426,26 @@ static uint8_t *large_room(size_t size)
         exit(EXIT_FAILURE);
     }
     return zeros;
+}
+
+/* Lengths that would be good in 32 bits, over such memory: an image of 2^32 + 4 bytes. */
+static void image_above_32_bits(uint8_t *zeros)
+{
+    open_image(8);
+    give(0, 0);
+    image.bytes = zeros;
+    image.size = ((size_t)1 << 32) + 4;
+    look();
+}
+
+/* And a list of 2^32 + 8, of which the first pair is good. */
+static void list_above_32_bits(uint8_t *zeros)
+{
+    open_image(8);
+    zeros[4] = 4;
+    image.stretches = zeros;
+    image.stretches_size = ((size_t)1 << 32) + 8;
+    look();
 }
 
 #endif

@@ -260,29 +260,22 @@ static void sizes(void)
         }
         for (size_t i = 0; i < COUNT(lengths); i++) {
             open_image(size);
-            pairs[0] = 0;
-            pairs[1] = lengths[i];
-            give(lengths[i] > 0 ? 1 : 0, 0);
+            give_one(lengths[i]);
+            if (lengths[i] == 0) {
+                give(0, 0);
+            }
             refused("size", 6);
         }
     }
 }
 
-/* Lengths that would be good in 32 bits: an image of 2^32 + 4 bytes, and an image of
- * 4 bytes whose list has a good pair and then 2^32 bytes of zeros. */
 static void above_32_bits(void)
 {
     size_t size = ((size_t)1 << 32) + 8;
     uint8_t *zeros = large_room(size);
-    open_image(4);
-    give(0, 0);
-    image.bytes = zeros;
-    image.size = size - 4;
+    image_above_32_bits(zeros);
     refused("image above 32 bits", 6);
-    open_image(4);
-    zeros[4] = 4;
-    image.stretches = zeros;
-    image.stretches_size = size;
+    list_above_32_bits(zeros);
     refused("list above 32 bits", 7);
     munmap(zeros, size);
 }

@@ -472,10 +472,7 @@ static void largest(void)
           "last word", MOST - 4, patch.length);
     check(apply("largest", MOST - 2) == 8, "middle of the last word", MOST - 2, patch.length);
     check(apply("largest", MOST) == 8, "end", MOST, patch.length);
-    pairs[0] = 0;
-    pairs[1] = MOST;
-    give(1, 0);
-    look();
+    give_one(MOST);
     take("add\tr8, r0", 10);
     check(apply("largest", MOST - 2) == 0 && memcmp(image.bytes + MOST - 4, "\x03\x10\x80\x44", 4) == 0,
           "last halfword", MOST - 2, patch.length);
@@ -491,8 +488,8 @@ static void largest(void)
     }
 }
 
-/* Lengths that would be good in 32 bits: an image of 2^32 + 4 bytes, which cannot be
- * written to, a list of 2^32 + 8 and a line of 2^32 + 11. */
+/* Lengths that would be good in 32 bits: a line of 2^32 + 11 bytes, a list, and an image
+ * that cannot be written to. */
 static void above_32_bits(void)
 {
     size_t large = (size_t)1 << 32;
@@ -506,14 +503,11 @@ static void above_32_bits(void)
     patch.length = large + 11;
     check(patch_image(0) == 4 && memcmp(image_room, wanted, ROOM) == 0, "line above 32 bits", 0, patch.length);
     memset(room, 0, 11);
-    room[4] = 4;
     take("<Undefined>", 11);
-    image.stretches = room;
-    image.stretches_size = large + 8;
+    list_above_32_bits(room);
+    memcpy(wanted, image_room, ROOM);
     check(patch_image(0) == 7 && memcmp(image_room, wanted, ROOM) == 0, "list above 32 bits", 0, patch.length);
-    give(0, 0);
-    image.bytes = room;
-    image.size = large + 4;
+    image_above_32_bits(room);
     check(mprotect(room, large + 11, PROT_READ) == 0 && patch_image(0) == 6, "image above 32 bits", 0, patch.length);
     munmap(room, large + 11);
 }

@@ -386,10 +386,7 @@ static void ordered(void)
     for (size_t r = 0; r < COUNT(orders); r++) {
         const struct order *row = &orders[r];
         open_image(row->size);
-        pairs[0] = 0;
-        pairs[1] = row->length;
-        give(1, 0);
-        look();
+        give_one(row->length);
         for (size_t i = 1; i < row->count; i++) {
             spread(0, 1, row->count);
             if (row->falls) {
@@ -678,8 +675,8 @@ static void large_capacities(uint32_t *zeros)
     memset(zeros, 0, sizeof wanted);
 }
 
-/* Lengths that would be good in 32 bits: an image of 2^32 + 4 bytes, and a list of
- * stretches of 2^32 + 8; then as many addresses, and as many elements for offsets. */
+/* Lengths that would be good in 32 bits: of addresses, of elements for offsets, and of the
+ * image and of its stretches. */
 static void above_32_bits(void)
 {
     size_t large = (size_t)1 << 32, size = 4 * (large + ADDRESSES);
@@ -690,15 +687,9 @@ static void above_32_bits(void)
     large_counts((uint32_t *)zeros);
     large_capacities((uint32_t *)zeros);
     spread(0, 1, ADDRESSES);
-    image.bytes = zeros;
-    image.size = large + 4;
-    look();
+    image_above_32_bits(zeros);
     check(beside("image above 32 bits", ADDRESSES, 0) == 6, "image above 32 bits", 0, 0);
-    open_image(8);
-    zeros[4] = 4;
-    image.stretches = zeros;
-    image.stretches_size = large + 8;
-    look();
+    list_above_32_bits(zeros);
     check(beside("list above 32 bits", ADDRESSES, 0) == 7, "list above 32 bits", 0, 0);
     munmap(zeros, size);
 }
