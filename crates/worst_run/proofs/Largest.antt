@@ -96,7 +96,7 @@ module _ (n : ℕ) where
       let ih = begins (at + s.bytes) to ss before run behind f.2 q h in
       omega arith
 
-  -- each begins before the end
+  -- none begins behind the end
   begins_within : (at to : ℕ) (ss before run behind : List Step) → Follow at ss to → ss ≡ before ++ run ++ behind → first_offset run ≤ to
   begins_within at to ss [] [] behind f e = omega arith
   begins_within at to [] [] (r ∷ run) behind f e = let z : ◌≡◌ {A = ℕ} 0 1 = cc in absurd (omega arith)
@@ -148,7 +148,7 @@ module _ (n : ℕ) where
         let e = earlier 0 to m the_worst ss run some f found k h in
         rw its_count (omega (arith, c, e))
 
-    -- it counts n steps at most, and begins inside the image
+    -- it counts n steps at most, and begins no further on than the image is long
     pub is_small : (image : List ℕ) → length image ≤ 65536 → Follow 0 ss (length image) → IsSmall n image the_worst
     is_small image short f =
         let r = is_reached in

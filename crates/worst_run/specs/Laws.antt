@@ -23,6 +23,6 @@ HasMost n listing worst = (run : List Step) → IsRun n listing run → invalid_
 abbrev pub IsFirst : ℕ → List Step → Run → Type 0
 IsFirst n listing worst = (run : List Step) → IsRun n listing run → first_offset run < worst.offset → invalid_count run < worst.count
 
--- its count is n at most, and it begins inside the image, or at the start of an empty one, which is no longer than 65,536 bytes
+-- its count is n at most, and its offset no larger than the image is long, which is 65,536 bytes at most
 abbrev pub IsSmall : ℕ → List ℕ → Run → Type 0
 IsSmall n image worst = (worst.count ≤ n) × (worst.offset ≤ length image) × (length image ≤ 65536)
