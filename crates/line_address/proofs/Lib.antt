@@ -1,0 +1,4 @@
+pub mod Raised
+pub mod Placed
+pub mod Arm
+pub mod Thumb
