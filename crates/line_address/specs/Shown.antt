@@ -52,6 +52,11 @@ thumb_address p raw = thumb_kind_address (thumb_format Sheet raw) p raw
 unfoldable pub pair_address : ℕ → ℕ → ℕ → Option ℕ
 pair_address p first second = cond (is_pair first second) (Some (pair_target p first second)) None
 
+-- as two numbers: 1 and the address, or twice 0
+abbrev pub address_numbers : Option ℕ → ℕ × ℕ
+address_numbers (Some n) = (1, n)
+address_numbers None = (0, 0)
+
 -- ---- where it stands: the line has n as its last bytes, which are ten
 abbrev pub EndsIn : Answer → ℕ → Type 0
 EndsIn shown n = (before : List ℕ) × (shown ≡ line (before ++ address Sheet n))

@@ -18,6 +18,7 @@ ghost use Rattle.steps.specs.Listed.{list_step};
 ghost use Rattle.patch.specs.Patch.{patched};
 ghost use Rattle.step_offsets.specs.Offsets.{offsets_numbers, step_offsets};
 ghost use Rattle.worst_run.specs.Worst.{run_numbers, worst_run};
+ghost use Rattle.line_address.specs.Shown.{address_numbers, arm_address, pair_address, thumb_address};
 ghost use Rattle.modestsilk.specs.Numbers.{form_of, given, numbers_of, offsets_given, patched_numbers, printed_numbers, refusal_number, written};
 
 use arm::arm_format;
@@ -25,6 +26,7 @@ use arm_print::print_arm;
 use arm_read::read_arm;
 use arm7tdmi::Form;
 use image::Image;
+use line_address::{arm_address, pair_address, thumb_address};
 use pairs::print::print_pair;
 use pairs::read::read_pair;
 use pairs::run::unpaired;
@@ -284,4 +286,41 @@ pub extern "C" fn silk_worst_run(
             u32::from(refusal)
         }
     }
+}
+
+// The address that a line shows, behind a pointer: 1, or 0 with address 0 where it shows none.
+fn give_address(address: Option<u32>, shown: &mut u32) -> u32
+    ensures { address_numbers address ≡ (result, shown.new) }
+{
+    *shown = address.unwrap_or(0);
+    u32::from(address.is_some())
+}
+
+/// The address that the sheet line of an ARM word at an address shows, behind the pointer: 1, or 0 with address 0 where the line shows none or the word is refused.
+#[unsafe(no_mangle)]
+pub extern "C" fn silk_address_arm(word: u32, address: u32, shown: &mut u32) -> u32
+    ensures { address_numbers (arm_address address word) ≡ (result, shown.new) }
+{
+    give_address(arm_address(word, address), shown)
+}
+
+/// The same for a Thumb halfword; that of a lone call half shows none.
+#[unsafe(no_mangle)]
+pub extern "C" fn silk_address_thumb(word: u16, address: u32, shown: &mut u32) -> u32
+    ensures { address_numbers (thumb_address address word) ≡ (result, shown.new) }
+{
+    give_address(thumb_address(word, address), shown)
+}
+
+/// The same for the line of a call pair: where the call goes. 0 with address 0 where the halfwords are no pair.
+#[unsafe(no_mangle)]
+pub extern "C" fn silk_address_pair(
+    first: u16,
+    second: u16,
+    address: u32,
+    shown: &mut u32,
+) -> u32
+    ensures { address_numbers (pair_address address first second) ≡ (result, shown.new) }
+{
+    give_address(pair_address(first, second, address), shown)
 }

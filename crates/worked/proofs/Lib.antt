@@ -1,3 +1,4 @@
 pub mod Rows
 pub mod Worked
 pub mod Pairs
+pub mod Addresses

@@ -6,6 +6,7 @@ ghost use Rattle.std.specs.Prelude.{◌≡◌};
 use arm_print::print_arm;
 use arm_read::read_arm;
 use arm7tdmi::Form;
+use line_address::{arm_address, pair_address, thumb_address};
 use lines::LINE;
 use pairs::print::print_pair;
 use pairs::read::read_pair;
@@ -36,6 +37,12 @@ enum Row {
     PairLine(u32, &'static [u8], Option<(u16, u16)>),
     // the index of the earliest half of a run that lacks its partner, if one does
     Run(&'static [u16], Option<usize>),
+    // the address that the sheet line of an ARM word shows at an address, if it shows one
+    ArmAddress(u32, u32, Option<u32>),
+    // the same for a Thumb word
+    ThumbAddress(u32, u16, Option<u32>),
+    // the same for two halfwords as a call pair
+    PairAddress(u32, u16, u16, Option<u32>),
 }
 
 const ROWS: [Row; 103] = [
@@ -265,6 +272,58 @@ const TESTS: [Row; 71] = [
     Row::Arm(Form::Sheet, 0, 0xf100_0000, Err(Refusal::NoCondition)),
 ];
 
+// Addresses that sheet lines show.
+const ADDRESSES: [Row; 39] = [
+    // b and bl, with a condition and without, forward, back, and across the end of the addresses.
+    Row::ArmAddress(0x100, 0xeaff_fffe, Some(0x100)),
+    Row::ArmAddress(0, 0xeb00_0000, Some(8)),
+    Row::ArmAddress(0, 0x0a7f_ffff, Some(0x200_0004)),
+    Row::ArmAddress(0, 0xea80_0000, Some(0xfe00_0008)),
+    Row::ArmAddress(0xffff_fff8, 0xea00_0000, Some(0)),
+    // ldr and str by an offset from pc, added, subtracted, and behind the brackets; ldrh and ldrsb.
+    Row::ArmAddress(0x100, 0xe59f_0004, Some(0x10c)),
+    Row::ArmAddress(0x100, 0xe50f_0004, Some(0x104)),
+    Row::ArmAddress(0x100, 0xe49f_0004, Some(0x10c)),
+    Row::ArmAddress(0, 0xe51f_0010, Some(0xffff_fff8)),
+    Row::ArmAddress(0x100, 0xe1df_00b4, Some(0x10c)),
+    Row::ArmAddress(0x100, 0xe15f_01d4, Some(0xf4)),
+    // From another base, and by a register.
+    Row::ArmAddress(0x100, 0xe59e_0004, None),
+    Row::ArmAddress(0x100, 0xe1de_00b4, None),
+    Row::ArmAddress(0x100, 0xe79f_0002, None),
+    Row::ArmAddress(0x100, 0xe19f_00b2, None),
+    // mov of a number, add to pc, swi, and no instruction.
+    Row::ArmAddress(0x100, 0xe3a0_0c01, None),
+    Row::ArmAddress(0x100, 0xe28f_0004, None),
+    Row::ArmAddress(0x100, 0xef00_0010, None),
+    Row::ArmAddress(0x100, 0xe600_0010, None),
+    // Refused with 1 and with 2.
+    Row::ArmAddress(0x100, 0xfaff_fffe, None),
+    Row::ArmAddress(0x100, 0xf59f_0004, None),
+    Row::ArmAddress(0x100, 0xe1df_0094, None),
+    // ldr from pc, which clears bit 1 of where it stands.
+    Row::ThumbAddress(0x100, 0x4801, Some(0x108)),
+    Row::ThumbAddress(0x102, 0x4801, Some(0x108)),
+    Row::ThumbAddress(0xffff_fffe, 0x4800, Some(0)),
+    // b, with a condition and without.
+    Row::ThumbAddress(0x100, 0xd0fe, Some(0x100)),
+    Row::ThumbAddress(0, 0xdd80, Some(0xffff_ff04)),
+    Row::ThumbAddress(0x100, 0xe7fe, Some(0x100)),
+    Row::ThumbAddress(0xffff_fffe, 0xe3ff, Some(0x800)),
+    // No instruction, swi, the halves of a call by themselves, and add to pc.
+    Row::ThumbAddress(0x100, 0xde00, None),
+    Row::ThumbAddress(0x100, 0xdf10, None),
+    Row::ThumbAddress(0x100, 0xf000, None),
+    Row::ThumbAddress(0x100, 0xf800, None),
+    Row::ThumbAddress(0x100, 0xa001, None),
+    // A call, to itself, far back, and across the end of the addresses; and two halves that are none.
+    Row::PairAddress(0x100, 0xf7ff, 0xfffe, Some(0x100)),
+    Row::PairAddress(0, 0xf400, 0xf800, Some(0xffc0_0004)),
+    Row::PairAddress(0xffff_fffe, 0xf000, 0xf800, Some(2)),
+    Row::PairAddress(0x100, 0xf800, 0xf000, None),
+    Row::PairAddress(0x100, 0xf000, 0xf000, None),
+];
+
 // Whether what is printed into a buffer with room for any line is what is said.
 fn prints<F: FnOnce(&mut [u8]) -> Result<usize, Refusal>>(
     print: F,
@@ -293,6 +352,9 @@ fn holds(row: Row) -> bool {
         Row::ThumbLine(form, pc, line, said) => read_thumb(form, pc, line) == said,
         Row::PairLine(pc, line, said) => read_pair(pc, line) == said,
         Row::Run(halfwords, said) => unpaired(halfwords) == said,
+        Row::ArmAddress(pc, word, said) => arm_address(word, pc) == said,
+        Row::ThumbAddress(pc, word, said) => thumb_address(word, pc) == said,
+        Row::PairAddress(pc, first, second, said) => pair_address(first, second, pc) == said,
     }
 }
 
@@ -309,9 +371,15 @@ fn tests_differing() -> usize {
     differing(&TESTS)
 }
 
+fn addresses_differing() -> usize {
+    differing(&ADDRESSES)
+}
+
 fn main(rt: HostRuntime) -> io::Result<()> {
     let rows = rows_differing();
     println!(rt; "{rows} of {} answers differ", ROWS.len())?;
     let tests = tests_differing();
-    println!(rt; "{tests} of {} answers for tests differ", TESTS.len())
+    println!(rt; "{tests} of {} answers for tests differ", TESTS.len())?;
+    let addresses = addresses_differing();
+    println!(rt; "{addresses} of {} addresses differ", ADDRESSES.len())
 }
