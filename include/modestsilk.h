@@ -77,11 +77,24 @@
  * through offset; where none has any, and of an image of 0 bytes, both are 0. The answer
  * is 0, or 6 or 7 as above, and then both numbers are 0. Nothing is printed.
  *
+ * silk_address_arm, silk_address_thumb and silk_address_pair tell which address the
+ * sheet line of a word, a halfword or a call pair at an address shows, so that lines
+ * are sorted by it without being read: where a branch or a call goes, what a Thumb load
+ * from pc reads, or what an ARM transfer with an offset from pc reads or writes, by its
+ * comment. The answer is 1 with that address behind shown, or 0 with 0 there where the
+ * line shows none, where the word is refused with 1, 2 or 9, or where the halfwords are
+ * no pair. A line shows one address at most, as its last ten bytes. The line of the same
+ * word or pair d bytes further on, modulo 2^32, has an address there that is d higher,
+ * and all its other bytes are the same; of a Thumb load from pc that holds where d is a
+ * multiple of 4. Where none is shown, the line is the same everywhere. A print answers
+ * the same number and length at both places, 3 among them.
+ *
  * What the pointers must be: line points to capacity bytes (a print) or length
  * bytes (a read or a patch), halfwords and addresses to count of theirs, offsets to
  * capacity of them, image and stretches to as many bytes as their lengths say, and
  * may be NULL where that number is 0; length, word, first, second, index, offset, bytes
- * and, in silk_worst_run, count point to memory for one value each, and are never NULL.
+ * shown and, in silk_worst_run, count point to memory for one value each, and are never
+ * NULL.
  * What a call writes to must not overlap anything else that it is given, nor be used by
  * another call at that time. The functions keep no state, so any thread may call them.
  *

@@ -314,12 +314,7 @@ pub extern "C" fn silk_address_thumb(word: u16, address: u32, shown: &mut u32) -
 
 /// The same for the line of a call pair: where the call goes. 0 with address 0 where the halfwords are no pair.
 #[unsafe(no_mangle)]
-pub extern "C" fn silk_address_pair(
-    first: u16,
-    second: u16,
-    address: u32,
-    shown: &mut u32,
-) -> u32
+pub extern "C" fn silk_address_pair(first: u16, second: u16, address: u32, shown: &mut u32) -> u32
     ensures { address_numbers (pair_address address first second) ≡ (result, shown.new) }
 {
     give_address(pair_address(first, second, address), shown)
