@@ -181,6 +181,10 @@ uint32_t silk_steps_at(const uint8_t *image, size_t image_length, const uint8_t 
 
 uint32_t silk_worst_run(const uint8_t *image, size_t image_length, const uint8_t *stretches, size_t stretches_length, uint32_t *count, uint32_t *offset);
 
+uint32_t silk_address_arm(uint32_t word, uint32_t address, uint32_t *shown);
+uint32_t silk_address_thumb(uint16_t word, uint32_t address, uint32_t *shown);
+uint32_t silk_address_pair(uint16_t first, uint16_t second, uint32_t address, uint32_t *shown);
+
 #ifdef __cplusplus
 }
 #endif
