@@ -1,6 +1,6 @@
 /* An image before a page without access, the rules of its listing, and random images:
- * what listing.c, patch.c, steps_at.c and worst_run.c share. The rules take from the
- * library only the line of a single word, halfword or call pair. */
+ * what listing.c, patch.c, steps_at.c, worst_run.c and moved.c share. The rules take from
+ * the library only the line of a single word, halfword or call pair. */
 #ifndef IMAGE_H
 #define IMAGE_H
 
