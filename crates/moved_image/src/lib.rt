@@ -8,9 +8,9 @@ ghost use Rattle.moved_image.specs.Moved.{RunsRaised, raised_steps, steps_from};
 
 use image::Image;
 
-/// The image `by` bytes further on, modulo 2^32: the same bytes and stretches, with another address for the first byte. Where `by` is a multiple of 4, its listing has
-/// the same steps: their offsets, their byte lengths and their refusals stay, and of their lines all bytes but the address, which is `by` higher. By any other number
-/// a Thumb load from pc may read elsewhere, since it clears bit 1 of where it stands. The image is refused with 6, 7 or 8 as before.
+/// The image `by` bytes further on, modulo 2^32: the same bytes and stretches, with another address for the first byte. It is refused with 6, 7 or 8 as before. Where
+/// `by` is a multiple of 4, its listing has the same steps: their offsets, their byte lengths and their refusals stay, and so do all bytes of their lines but the
+/// address, which is `by` higher. By another distance the address of a Thumb load from pc may go on otherwise, since such a load clears bit 1 of where it stands.
 #[tactic(auto, using(crate::proofs::Steps::steps_moved, crate::proofs::Run::run_moved))]
 pub fn moved_image(image: Image<'_>, by: u32) -> Image<'_>
     ensures bytes { result.bytes.now ≡ image.entry.bytes.now }
