@@ -4,7 +4,7 @@ use Rattle.common.proofs.Tests.{by_test}
 use Rattle.common.specs.Bits.{bit_range}
 use Rattle.text.specs.Text.{text}
 use Rattle.refusal.specs.declared.Refusal.{Refusal}
-use Rattle.arm7tdmi.specs.Signed.{moved}
+use Rattle.arm7tdmi.specs.Signed.{extended, moved}
 use Rattle.arm7tdmi.specs.declared.Form.TheVariants.{Sheet}
 use Rattle.arm7tdmi.specs.declared.alu.BarrelShifterValue.{BarrelShifterValue}
 use Rattle.arm7tdmi.specs.declared.alu.BarrelShifterValue.TheVariants.{ImmediateValue}
@@ -13,7 +13,7 @@ use Rattle.arm.specs.Kinds.{arm_format, arm_number}
 use Rattle.arm.specs.declared.ArmFormat.{ArmFormat}
 use Rattle.arm.specs.declared.ArmFormat.TheVariants as A
 use Rattle.lines.specs.Address.{address}
-use Rattle.lines.specs.Answer.{is_invalid, line, printed}
+use Rattle.lines.specs.Answer.{is_invalid, line, printed, refused}
 use Rattle.lines.specs.Pieces.{either, if_set, reg_at}
 use Rattle.arm_operand.specs.Operand.{comment, fmt_rn_offset, indexed, value_comment}
 use Rattle.arm_disass.specs.Line.{cond_mark, fmt_branch, fmt_halfword, fmt_ldr_str, fmt_ldr_str_hs_imm_offset, fmt_ldr_str_hs_reg_offset, halfword_text, line_of, user_mark}
@@ -22,20 +22,14 @@ use Rattle.arm_print.specs.Print.{answer_of, arm_line, line_unless, refusal_of}
 use Rattle.arm_print.proofs.Whole.{by_refusal}
 use Rattle.line_address.specs.Elsewhere.{raised, showing}
 use Rattle.line_address.specs.Shown.{EndsIn, arm_address, arm_kind_address, comment_address, unless_refused}
-use Rattle.line_address.proofs.Placed.{Placed, elsewhere, ends_in, same_answer, unmoved}
-use Rattle.line_address.proofs.Raised.{branch_raised, relative_raised}
+use Rattle.line_address.proofs.Placed.{Placed, elsewhere, ends, ends_in, same_answer, stays, unmoved}
+use Rattle.line_address.proofs.Raised.{raised_behind}
 
 module _ (raw : ℕ) where
   -- ---- the line of each kind, at a place p
   branch : Placed (λ p. line (fmt_branch Sheet p raw)) (λ p. Some (branch_target p raw))
   unfolding fmt_branch branch_target
-  branch = inl (record {
-    before = text "b" ++ if_set raw 24 (text "l") ++ cond_mark raw ++ text "\t";
-    target = λ p. branch_target p raw;
-    small = λ p. omega arith;
-    line_is = λ p. refl;
-    address_is = λ p. refl;
-  })
+  branch = ends (text "b" ++ if_set raw 24 (text "l") ++ cond_mark raw ++ text "\t") (λ p. branch_target p raw) (λ p. omega arith)
 
   -- a transfer, by what its line has before base and offset
   module _ (head : List ℕ) where
@@ -69,7 +63,7 @@ module _ (raw : ℕ) where
     transfer : (o : BarrelShifterValue) → Placed (λ p. line (head ++ fmt_rn_offset Sheet p raw o)) (λ p. comment_address p raw o)
     unfolding fmt_rn_offset comment
     transfer (ImmediateValue v) = immediate v
-    transfer other = inr (record { same = λ p q. refl; none = λ p. refl })
+    transfer other = stays (line (head ++ fmt_rn_offset Sheet 0 raw other))
 
   ldr_str : Placed (λ p. line (fmt_ldr_str Sheet p raw)) (λ p. comment_address p raw (ldr_str_offset raw))
   unfolding fmt_ldr_str
@@ -88,13 +82,13 @@ module _ (raw : ℕ) where
   kind_placed A.BranchLink = branch
   kind_placed A.SingleDataTransfer = ldr_str
   kind_placed A.HalfwordDataTransferImmediateOffset = halfword (ldr_str_hs_imm_offset raw)
-  kind_placed A.HalfwordDataTransferRegOffset = inr (record { same = λ p q. refl; none = λ p. refl })
-  kind_placed other = inr (record { same = λ p q. refl; none = λ p. refl })
+  kind_placed A.HalfwordDataTransferRegOffset = stays (line (line_of Sheet A.HalfwordDataTransferRegOffset 0 raw))
+  kind_placed other = stays (line (line_of Sheet other 0 raw))
 
   -- a refusal does not depend on the place
   unless_placed : (a : Option Refusal) (l : ℕ → List ℕ) (n : ℕ → Option ℕ) → Placed (λ p. line (l p)) n → Placed (λ p. line_unless a (l p)) (λ p. unless_refused (line_unless a (l p)) (n p))
   unless_placed None l n s = s
-  unless_placed (Some r) l n s = inr (record { same = λ p q. refl; none = λ p. refl })
+  unless_placed (Some r) l n s = stays (refused r)
 
   pub arm_placed : Placed (λ p. arm_line Sheet p raw) (λ p. arm_address p raw)
   unfolding arm_line answer_of arm_address
@@ -104,11 +98,13 @@ module _ (raw : ℕ) where
 
   -- ---- the address goes on with the place
   comment_raised : (p d : ℕ) (o : BarrelShifterValue) → comment_address (moved p d) raw o ≡ raised d (comment_address p raw o)
-  comment_raised p d (ImmediateValue v) = by_test (eqb (bit_range raw 16 20) 15) (λ t. rw (t, relative_raised p d v)) (λ t. rw t)
+  unfolding pc_relative
+  comment_raised p d (ImmediateValue v) = by_test (eqb (bit_range raw 16 20) 15) (λ t. rw t (ap Some (raised_behind p d 8 v))) (λ t. rw t)
   comment_raised p d other = refl
 
   kind_raised : (p d : ℕ) (fmt : ArmFormat) → arm_kind_address fmt (moved p d) raw ≡ raised d (arm_kind_address fmt p raw)
-  kind_raised p d A.BranchLink = ap Some (branch_raised p d raw)
+  unfolding branch_target
+  kind_raised p d A.BranchLink = ap Some (raised_behind p d 8 (extended 24 4 (bit_range raw 0 24)))
   kind_raised p d A.SingleDataTransfer = comment_raised p d (ldr_str_offset raw)
   kind_raised p d A.HalfwordDataTransferImmediateOffset = comment_raised p d (ldr_str_hs_imm_offset raw)
   kind_raised p d other = refl

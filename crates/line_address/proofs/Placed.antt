@@ -27,6 +27,12 @@ pub record Stays (at : ℕ → Answer) (shown : ℕ → Option ℕ) : Type 0 whe
 abbrev pub Placed : (ℕ → Answer) → (ℕ → Option ℕ) → Type 0
 Placed at shown = Ends at shown ⊎ Stays at shown
 
+pub ends : (before : List ℕ) (target : ℕ → ℕ) → ((p : ℕ) → target p < 2 ^ 32) → Placed (λ p. line (before ++ address Sheet (target p))) (λ p. Some (target p))
+ends before target small = inl (record { before = before; target = target; small = small; line_is = λ p. refl; address_is = λ p. refl })
+
+pub stays : (a : Answer) → Placed (λ p. a) (λ p. None)
+stays a = inr (record { same = λ p q. refl; none = λ p. refl })
+
 -- ---- addresses at the end of a line
 ends_length : (before : List ℕ) (n : ℕ) → length (before ++ address Sheet n) - 10 ≡ length before
 ends_length before n = let w = sheet_within n in simp length-append (omega arith)

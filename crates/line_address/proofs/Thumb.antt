@@ -1,71 +1,56 @@
 -- Where a Thumb word or a call pair stands elsewhere, its line is the same but for the address. Assumes nothing.
-use Rattle.std.proofs.Common.{◌≡◌, ◌↔◌, ℕ, ◌%◌, List, ◌++◌, Some, None, IfSome, refl, ap, ◌∙◌, inl, inr, arith}
+use Rattle.std.proofs.Common.{◌≡◌, ◌↔◌, ℕ, ◌%◌, List, ◌++◌, Some, None, IfSome, refl, ap, ◌∙◌, arith}
 use Rattle.common.proofs.Tests.{by_test}
+use Rattle.common.specs.Bits.{bit_range}
 use Rattle.text.specs.Text.{text}
 use Rattle.text.specs.Digits.{prefixed}
-use Rattle.arm7tdmi.specs.Signed.{moved}
+use Rattle.arm7tdmi.specs.Signed.{extended, moved}
 use Rattle.arm7tdmi.specs.declared.Form.TheVariants.{Sheet}
 use Rattle.thumb.specs.Fields.{bcond_target, branch_target, pc_load_address, word8}
 use Rattle.thumb.specs.Kinds.{thumb_format}
 use Rattle.thumb.specs.Pair.{is_pair, pair_target}
 use Rattle.thumb.specs.declared.ThumbFormat.{ThumbFormat}
 use Rattle.thumb.specs.declared.ThumbFormat.TheVariants as H
-use Rattle.lines.specs.Answer.{line, printed}
+use Rattle.refusal.specs.declared.Refusal.TheVariants.{NoPair}
+use Rattle.lines.specs.Answer.{line, printed, refused}
 use Rattle.lines.specs.Pieces.{cond_at, reg_at}
 use Rattle.thumb_disass.specs.Line.{fmt_thumb_branch, fmt_thumb_branch_with_cond, fmt_thumb_ldr_pc, line_of}
 use Rattle.thumb_print.specs.Print.{thumb_line}
 use Rattle.pairs.specs.Print.{pair_line, pair_text}
 use Rattle.line_address.specs.Elsewhere.{raised, showing}
 use Rattle.line_address.specs.Shown.{EndsIn, pair_address, thumb_address, thumb_kind_address}
-use Rattle.line_address.proofs.Placed.{Placed, elsewhere, ends_in, same_answer, unmoved}
-use Rattle.line_address.proofs.Raised.{bcond_raised, load_raised, pair_raised, thumb_branch_raised}
+use Rattle.line_address.proofs.Placed.{Placed, elsewhere, ends, ends_in, same_answer, stays, unmoved}
+use Rattle.line_address.proofs.Raised.{load_raised, pair_raised, raised_behind}
 
 module _ (raw : ℕ) where
   load : Placed (λ p. line (fmt_thumb_ldr_pc Sheet p raw)) (λ p. Some (pc_load_address p raw))
   unfolding fmt_thumb_ldr_pc pc_load_address
-  load = inl (record {
-    before = text "ldr\t" ++ reg_at raw 8 11 ++ text ", [pc, #" ++ prefixed 1 (word8 raw) ++ text "] ; = #";
-    target = λ p. pc_load_address p raw;
-    small = λ p. omega arith;
-    line_is = λ p. refl;
-    address_is = λ p. refl;
-  })
+  load = ends (text "ldr\t" ++ reg_at raw 8 11 ++ text ", [pc, #" ++ prefixed 1 (word8 raw) ++ text "] ; = #") (λ p. pc_load_address p raw) (λ p. omega arith)
 
   branch_with_cond : Placed (λ p. line (fmt_thumb_branch_with_cond Sheet p raw)) (λ p. Some (bcond_target p raw))
   unfolding fmt_thumb_branch_with_cond bcond_target
-  branch_with_cond = inl (record {
-    before = text "b" ++ cond_at raw 8 12 ++ text "\t";
-    target = λ p. bcond_target p raw;
-    small = λ p. omega arith;
-    line_is = λ p. refl;
-    address_is = λ p. refl;
-  })
+  branch_with_cond = ends (text "b" ++ cond_at raw 8 12 ++ text "\t") (λ p. bcond_target p raw) (λ p. omega arith)
 
   branch : Placed (λ p. line (fmt_thumb_branch Sheet p raw)) (λ p. Some (branch_target p raw))
   unfolding fmt_thumb_branch branch_target
-  branch = inl (record {
-    before = text "b\t";
-    target = λ p. branch_target p raw;
-    small = λ p. omega arith;
-    line_is = λ p. refl;
-    address_is = λ p. refl;
-  })
+  branch = ends (text "b\t") (λ p. branch_target p raw) (λ p. omega arith)
 
   kind_placed : (fmt : ThumbFormat) → Placed (λ p. line (line_of Sheet fmt p raw)) (λ p. thumb_kind_address fmt p raw)
   unfolding line_of
   kind_placed H.LdrPc = load
   kind_placed H.BranchConditional = branch_with_cond
   kind_placed H.Branch = branch
-  kind_placed other = inr (record { same = λ p q. refl; none = λ p. refl })
+  kind_placed other = stays (line (line_of Sheet other 0 raw))
 
   pub thumb_placed : Placed (λ p. thumb_line Sheet p raw) (λ p. thumb_address p raw)
   unfolding thumb_line thumb_address
   thumb_placed = kind_placed (thumb_format Sheet raw)
 
   kind_raised : (p d : ℕ) (fmt : ThumbFormat) → (fmt ≡ H.LdrPc → d % 4 ≡ 0) → thumb_kind_address fmt (moved p d) raw ≡ raised d (thumb_kind_address fmt p raw)
+  unfolding bcond_target branch_target
   kind_raised p d H.LdrPc h = ap Some (load_raised p d raw (h refl))
-  kind_raised p d H.BranchConditional h = ap Some (bcond_raised p d raw)
-  kind_raised p d H.Branch h = ap Some (thumb_branch_raised p d raw)
+  kind_raised p d H.BranchConditional h = ap Some (raised_behind p d 4 (extended 8 2 (bit_range raw 0 8)))
+  kind_raised p d H.Branch h = ap Some (raised_behind p d 4 (extended 11 2 (bit_range raw 0 11)))
   kind_raised p d other h = refl
 
   thumb_raised : (p d : ℕ) → (thumb_format Sheet raw ≡ H.LdrPc → d % 4 ≡ 0) → thumb_address (moved p d) raw ≡ raised d (thumb_address p raw)
@@ -91,14 +76,8 @@ module _ (first second : ℕ) where
   unfolding pair_line pair_text pair_address pair_target
   pair_placed =
       by_test (is_pair first second)
-      (λ t. inl (record {
-        before = text "bl\t";
-        target = λ p. pair_target p first second;
-        small = λ p. omega arith;
-        line_is = λ p. rw t;
-        address_is = λ p. rw t;
-      }))
-      (λ t. inr (record { same = λ p q. rw t; none = λ p. rw t }))
+      (λ t. rw t (ends (text "bl\t") (λ p. pair_target p first second) (λ p. omega arith)))
+      (λ t. rw t (stays (refused NoPair)))
 
   pair_address_raised : (p d : ℕ) → pair_address (moved p d) first second ≡ raised d (pair_address p first second)
   unfolding pair_address
