@@ -52,6 +52,9 @@ mod c {
             second: *mut u16,
         ) -> u32;
         pub fn silk_unpaired(halfwords: *const u16, count: usize, index: *mut usize) -> u32;
+        pub fn silk_address_arm(word: u32, address: u32, shown: *mut u32) -> u32;
+        pub fn silk_address_thumb(word: u16, address: u32, shown: *mut u32) -> u32;
+        pub fn silk_address_pair(first: u16, second: u16, address: u32, shown: *mut u32) -> u32;
         pub fn silk_list_step(
             image: *const u8,
             image_length: usize,
@@ -170,6 +173,44 @@ pub fn unpaired(run: &[u16]) -> (u32, usize) {
     // SAFETY: the run and the index are lent for the call alone.
     let number = unsafe { c::silk_unpaired(run.as_ptr(), run.len(), &mut index) };
     (number, index)
+}
+
+/// The address behind a 1. With a 0 it must be 0, and there is no other number.
+#[inline]
+fn some_address(number: u32, shown: u32) -> Option<u32> {
+    if number == 1 {
+        return Some(shown);
+    }
+    assert_eq!((number, shown), (0, 0));
+    None
+}
+
+/// Gives the address that the sheet line of an ARM word shows. Inlined, as it
+/// would take as long as what it calls.
+#[inline]
+pub fn address_arm(word: u32, address: u32) -> Option<u32> {
+    let mut shown = u32::MAX;
+    // SAFETY: the address is lent for the call alone.
+    let number = unsafe { c::silk_address_arm(word, address, &mut shown) };
+    some_address(number, shown)
+}
+
+/// The same for a Thumb word.
+#[inline]
+pub fn address_thumb(word: u16, address: u32) -> Option<u32> {
+    let mut shown = u32::MAX;
+    // SAFETY: the address is lent for the call alone.
+    let number = unsafe { c::silk_address_thumb(word, address, &mut shown) };
+    some_address(number, shown)
+}
+
+/// The same for a call pair.
+#[inline]
+pub fn address_pair(pair: Pair, address: u32) -> Option<u32> {
+    let mut shown = u32::MAX;
+    // SAFETY: the address is lent for the call alone.
+    let number = unsafe { c::silk_address_pair(pair.0, pair.1, address, &mut shown) };
+    some_address(number, shown)
 }
 
 /// What a step of a listing answers.
