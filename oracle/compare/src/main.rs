@@ -1,18 +1,24 @@
 //! Compares the library's bench lines, refusals and bench kinds (of Thumb words
-//! also by their top byte) with the published Rust. `compare [--words N]` takes
-//! all Thumb halfwords at many addresses, the corners of the ARM mask table, and
-//! N random ARM words (20 million if not given), and with these the lines of all
-//! call pairs; `compare --long ADDRESS` takes all ARM words at one address, in
-//! hexadecimal. Ends with a summary line, and fails if there is a difference.
+//! also by their top byte), and the addresses that its sheet lines show, with the
+//! published Rust. `compare [--words N]` takes all Thumb halfwords at many
+//! addresses, the corners of the ARM mask table, and N random ARM words (20
+//! million if not given), and with these the lines and the addresses of all call
+//! pairs, and halfwords that make none; `compare --long ADDRESS` takes all ARM words
+//! at one address, in hexadecimal. Ends with a summary line, and fails if there is
+//! a difference.
 
 use std::env;
 use std::ops::AddAssign;
+use std::panic;
 use std::process::ExitCode;
 use std::sync::atomic::{AtomicU64, Ordering};
 use std::thread;
 
-use arm7tdmi::arm::ArmFormat;
-use arm7tdmi::thumb::ThumbFormat;
+use arm7tdmi::BarrelShifterValue;
+use arm7tdmi::arm::{ArmCond, ArmDecodeHelper, ArmFormat};
+use arm7tdmi::registers_consts::REG_PC;
+use arm7tdmi::thumb::{ThumbDecodeHelper, ThumbFormat};
+use bit::BitIndex;
 use rows::{Panic, Row, Word};
 use silk::Pair;
 
@@ -109,10 +115,94 @@ fn expected(row: Row, line: &mut String) -> Result<(u32, bool), String> {
     }
 }
 
+/// The Rust's kind, by its place in the enum.
+fn expected_kind(word: Word) -> u32 {
+    match word {
+        Word::Arm(word) => ArmFormat::from(word) as u32,
+        Word::Thumb(word) => ThumbFormat::from(word) as u32,
+    }
+}
+
+/// Whether an ARM word's line ends in an address, by the Rust's kind and fields:
+/// that of a branch, or of a transfer by a number from pc. The bench kinds serve
+/// for the sheet too: they differ where bits 27 to 25 are 011, which are
+/// transfers by a register or `<Undefined>`, and those show none in either form.
+fn shows_address_arm(word: u32) -> bool {
+    let offset = match ArmFormat::from(word) {
+        ArmFormat::BranchLink => return true,
+        ArmFormat::SingleDataTransfer => word.ldr_str_offset(),
+        ArmFormat::HalfwordDataTransferImmediateOffset => word.ldr_str_hs_imm_offset(),
+        _ => return false,
+    };
+    let base = word.bit_range(16..20) as usize;
+    matches!(offset, BarrelShifterValue::ImmediateValue(_)) && base == REG_PC
+}
+
+/// The same for a Thumb word: that of a branch, or of a load from pc.
+fn shows_address_thumb(word: u16) -> bool {
+    match ThumbFormat::from(word) {
+        ThumbFormat::LdrPc | ThumbFormat::Branch => true,
+        // Top byte DE is a branch that is always taken for the Rust, but on the
+        // sheet it is `<Undefined>`, and shows none.
+        ThumbFormat::BranchConditional => word.cond() != ArmCond::AL,
+        _ => false,
+    }
+}
+
+/// The address that the sheet must show: the last number of the Rust's line, if
+/// that is an address. Where the Rust panics there is no line, and no address.
+fn expected_address(word: Word, line: &str) -> Option<u32> {
+    let shows_address = match word {
+        Word::Arm(word) => shows_address_arm(word),
+        Word::Thumb(word) => shows_address_thumb(word),
+    };
+    if line.is_empty() || !shows_address {
+        return None;
+    }
+    let (_, digits) = line.rsplit_once("0x").expect("a line with an address");
+    Some(u32::from_str_radix(digits, 16).expect("hexadecimal digits"))
+}
+
+/// What the library answers for a word, its bench line apart.
+struct Answer {
+    kinds: [u32; 2],
+    number: u32,
+    length: usize,
+    /// The address that the sheet line shows.
+    shown: Option<u32>,
+}
+
+/// The library's answer, and in the buffer the bench line.
+fn answer(row: Row, buffer: &mut [u8]) -> Answer {
+    let (kinds, (number, length), shown) = match row.word {
+        Word::Arm(word) => (
+            [silk::kind_arm(silk::BENCH, word); 2],
+            silk::print_arm(silk::BENCH, word, row.address, buffer),
+            silk::address_arm(word, row.address),
+        ),
+        Word::Thumb(word) => (
+            [
+                silk::kind_thumb(silk::BENCH, word),
+                silk::kind_thumb_top(silk::BENCH, (word >> 8) as u8),
+            ],
+            silk::print_thumb(silk::BENCH, word, row.address, buffer),
+            silk::address_thumb(word, row.address),
+        ),
+    };
+    Answer {
+        kinds,
+        number,
+        length,
+        shown,
+    }
+}
+
 /// What was seen.
 #[derive(Default)]
 struct Tally {
     words: u64,
+    /// Words whose line shows an address.
+    addresses: u64,
     refusals_1: u64,
     refusals_2: u64,
     /// Refusals 1 where the Rust itself panics for the halfword type.
@@ -123,48 +213,52 @@ struct Tally {
 }
 
 impl Tally {
-    fn visit(&mut self, row: Row, line: &mut String) {
+    /// Counts a difference, and shows it if it is one of the first.
+    fn differ(&mut self, difference: impl FnOnce() -> String) {
+        self.differences += 1;
+        if self.shown.len() < SHOWN {
+            self.shown.push(difference());
+        }
+    }
+
+    /// Counts what the Rust's answer is.
+    fn count(&mut self, rust: &Result<(u32, bool), String>, address: Option<u32>) {
         self.words += 1;
-        let mut buffer = [GUARD; 128];
-        let (kinds, rust_kind, (number, length)) = match row.word {
-            Word::Arm(word) => (
-                [silk::kind_arm(silk::BENCH, word); 2],
-                ArmFormat::from(word) as u32,
-                silk::print_arm(silk::BENCH, word, row.address, &mut buffer),
-            ),
-            Word::Thumb(word) => (
-                [
-                    silk::kind_thumb(silk::BENCH, word),
-                    silk::kind_thumb_top(silk::BENCH, (word >> 8) as u8),
-                ],
-                ThumbFormat::from(word) as u32,
-                silk::print_thumb(silk::BENCH, word, row.address, &mut buffer),
-            ),
-        };
-        let rust = expected(row, line);
+        self.addresses += u64::from(address.is_some());
         match rust {
             Ok((1, other_order)) => {
                 self.refusals_1 += 1;
-                self.other_order += u64::from(other_order);
+                self.other_order += u64::from(*other_order);
             }
             Ok((2, _)) => self.refusals_2 += 1,
             _ => {}
         }
-        let same = kinds == [rust_kind; 2]
-            && rust.as_ref().is_ok_and(|answer| answer.0 == number)
-            && length == line.len()
+    }
+
+    fn visit(&mut self, row: Row, line: &mut String) {
+        let mut buffer = [GUARD; 128];
+        let ours = answer(row, &mut buffer);
+        let rust = expected(row, line);
+        let kind = expected_kind(row.word);
+        let address = expected_address(row.word, line);
+        self.count(&rust, address);
+        let same = ours.kinds == [kind; 2]
+            && rust.as_ref().is_ok_and(|answer| answer.0 == ours.number)
+            && ours.shown == address
+            && ours.length == line.len()
             && buffer.starts_with(line.as_bytes())
-            && buffer[length..].iter().all(|&byte| byte == GUARD);
+            && buffer[ours.length..].iter().all(|&byte| byte == GUARD);
         if !same {
-            self.differences += 1;
-            if self.shown.len() < SHOWN {
+            self.differ(|| {
                 let last = buffer.iter().rposition(|&byte| byte != GUARD);
                 let written = buffer[..last.map_or(0, |last| last + 1)].escape_ascii();
-                self.shown.push(format!(
-                    "{row:x?}: kinds {kinds:?}, number {number}, length {length}, bytes \"{written}\"; \
-                     the Rust: kind {rust_kind}, {rust:?}, line {line:?}"
-                ));
-            }
+                format!(
+                    "{row:x?}: kinds {:?}, number {}, length {}, address {:x?}, \
+                     bytes \"{written}\"; \
+                     the Rust: kind {kind}, {rust:?}, address {address:x?}, line {line:?}",
+                    ours.kinds, ours.number, ours.length, ours.shown
+                )
+            });
         }
     }
 }
@@ -172,6 +266,7 @@ impl Tally {
 impl AddAssign for Tally {
     fn add_assign(&mut self, other: Tally) {
         self.words += other.words;
+        self.addresses += other.addresses;
         self.refusals_1 += other.refusals_1;
         self.refusals_2 += other.refusals_2;
         self.other_order += other.other_order;
@@ -204,12 +299,12 @@ fn part(name: &str, count: u64, row: impl Fn(u64) -> Row + Sync) -> Tally {
     thread::scope(|scope| {
         let threads: Vec<_> = (0..cores).map(|_| scope.spawn(work)).collect();
         for thread in threads {
-            tally += thread.join().expect("only the Rust panics, and is caught");
+            tally += thread.join().expect("the Rust's panics are caught");
         }
     });
     println!(
-        "{name}: {} words, {} differences",
-        tally.words, tally.differences
+        "{name}: {} words, {} of them show an address, {} differences",
+        tally.words, tally.addresses, tally.differences
     );
     tally
 }
@@ -223,21 +318,29 @@ fn half_number(half: u16) -> u32 {
     u32::from_str_radix(digits, 16).expect("hexadecimal digits")
 }
 
-/// How a pair's line differs from that with the target, if it does.
+/// How a pair's line differs from that with the target, or its address from the
+/// target, if it does.
 fn pair_difference(pair: Pair, address: u32, target: u32) -> Option<String> {
     let mut buffer = [GUARD; 16];
     let answer = silk::print_pair(pair, address, &mut buffer);
+    let shown = silk::address_pair(pair, address);
     let line = format!("bl\t0x{target:08x}");
     let same = answer == (0, line.len())
+        && shown == Some(target)
         && buffer.starts_with(line.as_bytes())
         && buffer[line.len()..].iter().all(|&byte| byte == GUARD);
     let written = buffer.escape_ascii();
-    (!same)
-        .then(|| format!("{pair:x?} at {address:x}: {answer:?}, bytes \"{written}\", not {line:?}"))
+    (!same).then(|| {
+        format!(
+            "{pair:x?} at {address:x}: {answer:?}, bytes \"{written}\", address {shown:x?}, \
+             not {line:?}"
+        )
+    })
 }
 
-/// Compares the lines of all call pairs. The Rust has none, but it shows the
-/// numbers of the halves: with the address behind the pair they make its target.
+/// Compares the lines and the addresses of all call pairs. The Rust has none, but
+/// it shows the numbers of the halves: with the address behind the pair they make
+/// its target.
 fn pairs(addresses: &[u32]) -> Tally {
     let (mut tally, mut pairs) = (Tally::default(), 0);
     let [firsts, seconds] = [0xf000, 0xf800]
@@ -250,9 +353,7 @@ fn pairs(addresses: &[u32]) -> Tally {
                 let target = behind.wrapping_add(high).wrapping_add(low);
                 pairs += 1;
                 if let Some(difference) = pair_difference((first, second), address, target) {
-                    tally.differences += 1;
-                    tally.shown.push(difference);
-                    tally.shown.truncate(SHOWN);
+                    tally.differ(|| difference);
                 }
             }
         }
@@ -260,6 +361,39 @@ fn pairs(addresses: &[u32]) -> Tally {
     println!(
         "all call pairs at {} addresses: {pairs} pairs, {} differences",
         addresses.len(),
+        tally.differences
+    );
+    tally
+}
+
+/// Whether two halfwords are a call: for the Rust each is a half of one, and bit
+/// 11, its flag of a low offset, is clear in the first and set in the second.
+fn is_call(pair: Pair) -> bool {
+    let is_half = |half| ThumbFormat::from(half) == ThumbFormat::BranchLongWithLink;
+    is_half(pair.0) && is_half(pair.1) && !pair.0.bit(11) && pair.1.bit(11)
+}
+
+/// Compares halfwords that are no call: all of them, in front of halves of calls
+/// and behind them. The two are refused with 5 and show no address.
+fn other_pairs() -> Tally {
+    let (mut tally, mut pairs) = (Tally::default(), 0);
+    for half in 0..=u16::MAX {
+        for call_half in [0xf000, 0xf7ff, 0xf800, 0xffff] {
+            for pair in [(half, call_half), (call_half, half)] {
+                if is_call(pair) {
+                    continue;
+                }
+                pairs += 1;
+                let printed = silk::print_pair(pair, 0, &mut [GUARD; 16]);
+                let shown = silk::address_pair(pair, 0);
+                if (printed, shown) != ((5, 0), None) {
+                    tally.differ(|| format!("{pair:x?}: {printed:?}, address {shown:x?}, no call"));
+                }
+            }
+        }
+    }
+    println!(
+        "halfwords beside halves of calls: {pairs} pairs that are none, {} differences",
         tally.differences
     );
     tally
@@ -292,6 +426,7 @@ fn usual(words: u64) -> Tally {
     });
     tally += part("random ARM words at random addresses", words, random_row);
     tally += pairs(&addresses[..8]);
+    tally += other_pairs();
     tally
 }
 
@@ -311,8 +446,18 @@ fn compared(arguments: &[&str]) -> Option<Tally> {
     }
 }
 
+/// The Rust's panics are answers, so they are not reported. Any other is.
+fn silence_the_rust() {
+    panic::set_hook(Box::new(|panic| {
+        let place = panic.location();
+        if !place.is_some_and(|place| place.file().starts_with("arm7tdmi/")) {
+            eprintln!("{panic}");
+        }
+    }));
+}
+
 fn main() -> ExitCode {
-    rows::silence_panics();
+    silence_the_rust();
     let arguments: Vec<String> = env::args().skip(1).collect();
     let arguments: Vec<&str> = arguments.iter().map(String::as_str).collect();
     let Some(tally) = compared(&arguments) else {
@@ -323,9 +468,15 @@ fn main() -> ExitCode {
         println!("{difference}");
     }
     println!(
-        "compare: {} words, {} refused with 1 ({} of them where the Rust panics for the type), \
+        "compare: {} words, {} of them show an address, \
+         {} refused with 1 ({} of them where the Rust panics for the type), \
          {} refused with 2, {} differences",
-        tally.words, tally.refusals_1, tally.other_order, tally.refusals_2, tally.differences
+        tally.words,
+        tally.addresses,
+        tally.refusals_1,
+        tally.other_order,
+        tally.refusals_2,
+        tally.differences
     );
     ExitCode::from(u8::from(tally.differences > 0))
 }
