@@ -3,6 +3,7 @@
 //! the two row programs and the program that lists an image, if they are at
 //! these paths.
 
+mod address;
 mod blocks;
 mod listing;
 mod patch;
@@ -81,13 +82,18 @@ fn display(instruction: impl Display, line: &mut String) {
     black_box(line);
 }
 
-/// Random ARM words that print in both forms, at random addresses.
-fn arm_words() -> Vec<(u32, u32)> {
-    let mut buffer = [0; 128];
-    let mut prints = |form, word| silk::print_arm(form, word, 0, &mut buffer).0 == 0;
+/// Random ARM words, at random addresses.
+fn random_arm() -> impl Iterator<Item = (u32, u32)> {
     (0..)
         .map(silk::random)
         .map(|number| (number as u32, (number >> 32) as u32))
+}
+
+/// Those of them that print in both forms.
+fn arm_words() -> Vec<(u32, u32)> {
+    let mut buffer = [0; 128];
+    let mut prints = |form, word| silk::print_arm(form, word, 0, &mut buffer).0 == 0;
+    random_arm()
         .filter(|&(word, _)| prints(BENCH, word) && prints(SHEET, word))
         .take(WORDS)
         .collect()
@@ -239,6 +245,28 @@ fn reads<W: Copy, R>(
     }
 }
 
+/// Prints the table of reads.
+fn read_table(arm: &[(u32, u32)], thumb: &[(u16, u32)], calls: &[(Pair, u32)]) {
+    let both = [(BENCH, "bench"), (SHEET, "sheet")];
+    println!("\n| set, order | form | line | read, ns | print, ns | read / print |");
+    println!("|---|---|---|---|---|---|");
+    reads("ARM, random", &both, arm, silk::print_arm, silk::read_arm);
+    reads(
+        "Thumb, random",
+        &both,
+        thumb,
+        silk::print_thumb,
+        silk::read_thumb,
+    );
+    reads(
+        "call pairs, random",
+        &both[1..],
+        calls,
+        |_, pair, address, line| silk::print_pair(pair, address, line),
+        |_, address, line| silk::read_pair(address, line),
+    );
+}
+
 /// Runs a row program over a file of rows.
 fn run(program: &str, rows: &Path) {
     let status = Command::new(program)
@@ -294,7 +322,6 @@ fn main() -> io::Result<()> {
     let thumb = thumb_words();
     let mixed = shuffled(thumb.clone());
     let calls = pairs();
-    let both = [(BENCH, "bench"), (SHEET, "sheet")];
 
     println!("| operation | set, order | form | ours, ns | the Rust, ns | ours / the Rust |");
     println!("|---|---|---|---|---|---|");
@@ -302,31 +329,9 @@ fn main() -> io::Result<()> {
     thumb_operations("in order", &thumb);
     thumb_operations("random", &mixed);
     pair_operations(&calls);
-
-    println!("\n| set, order | form | line | read, ns | print, ns | read / print |");
-    println!("|---|---|---|---|---|---|");
-    reads(
-        "ARM, random",
-        &both,
-        &arm[..ROWS],
-        silk::print_arm,
-        silk::read_arm,
-    );
-    reads(
-        "Thumb, random",
-        &both,
-        &mixed[..ROWS],
-        silk::print_thumb,
-        silk::read_thumb,
-    );
-    reads(
-        "call pairs, random",
-        &both[1..],
-        &calls[..ROWS],
-        |_, pair, address, line| silk::print_pair(pair, address, line),
-        |_, address, line| silk::read_pair(address, line),
-    );
+    read_table(&arm[..ROWS], &mixed[..ROWS], &calls[..ROWS]);
     run_of_pairs(&calls);
+    address::table(&arm, [&thumb, &mixed], &calls);
     patch::table();
     steps_at::table();
     worst_run::table();
