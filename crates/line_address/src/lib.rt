@@ -81,8 +81,9 @@ pub fn arm_address(raw: u32, pc: u32) -> Option<u32>
     arm_kind_address(arm_format(Form::Sheet, raw), raw, pc)
 }
 
-/// The address that the sheet line of a Thumb halfword at an address shows: where a branch goes, or what a load from pc reads. `None` where the line shows none, as
-/// that of a lone call half does. A load from pc clears bit 1 of where it stands, so that by other distances than multiples of 4 its address may go on otherwise.
+/// The address that the sheet line of a Thumb halfword at an address shows: where a branch goes, or what a load from pc reads. `None` where the line shows none; the
+/// number of a lone call half is no address. No halfword is refused. A load from pc clears bit 1 of where it stands, so its address goes on with it by multiples of
+/// 4, and by other distances it need not.
 #[tactic(auto, using(crate::proofs::Thumb::thumb_ends, crate::proofs::Thumb::thumb_moved, crate::proofs::Thumb::thumb_unmoved, crate::proofs::Thumb::thumb_same), unfolding(crate::specs::Shown::thumb_address))]
 pub fn thumb_address(raw: u16, pc: u32) -> Option<u32>
     ensures address { result ≡ thumb_address pc raw }

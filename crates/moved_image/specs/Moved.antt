@@ -34,8 +34,8 @@ raised_steps image d ss = map (raised_step image d) ss
 abbrev pub steps_from : Image → ℕ → List Step
 steps_from image from = steps image.bytes.now image.stretches.now image.base from
 
--- a listing of one image and one of another, opened at the same offset: run in as many calls into buffers of one length, the other shows what the one does, with each
--- address raised by d
+-- a listing of one image and one of another, both from the same offset on: run in as many calls into buffers of one length, the other shows what the one does, with
+-- each address raised by d
 abbrev pub RunsRaised : Image → Image → ℕ → Type 0
 RunsRaised image other d =
     (offset : ℕ) (here there : Listing)

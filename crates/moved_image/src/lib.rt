@@ -10,7 +10,7 @@ use image::Image;
 
 /// The image `by` bytes further on, modulo 2^32: the same bytes and stretches, with another address for the first byte. It is refused with 6, 7 or 8 as before. Where
 /// `by` is a multiple of 4, its listing has the same steps: their offsets, their byte lengths and their refusals stay, and so do all bytes of their lines but the
-/// address, which is `by` higher. By another distance the address of a Thumb load from pc may go on otherwise, since such a load clears bit 1 of where it stands.
+/// address, which is `by` higher. By other distances that of a Thumb load from pc need not be, since such a load clears bit 1 of where it stands.
 #[tactic(auto, using(crate::proofs::Steps::steps_moved, crate::proofs::Run::run_moved))]
 pub fn moved_image(image: Image<'_>, by: u32) -> Image<'_>
     ensures bytes { result.bytes.now ≡ image.entry.bytes.now }
