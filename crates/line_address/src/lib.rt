@@ -1,5 +1,6 @@
 //! The address that a sheet line shows, and the line where its word stands elsewhere. A line shows one address at most, and that in its last ten bytes (`0x` and
-//! eight digits); where the word stands `d` bytes further on, modulo 2^32, the address is `d` higher and all other bytes are the same.
+//! eight digits); where the word stands `d` bytes further on, modulo 2^32, the address is `d` higher and all other bytes are the same. Of a Thumb load from pc that
+//! is promised where `d` is a multiple of 4.
 //!
 //! Which lines show an address is a list by kind, and nobody has to trust it: were a kind missing, there would be a line that changes with the place where the
 //! answer is `None` (`unmoved`); and were one too many on it, there would be a line that does not end in the address answered (`shown`), or not in one that goes

@@ -304,7 +304,7 @@ pub extern "C" fn silk_address_arm(word: u32, address: u32, shown: &mut u32) -> 
     give_address(arm_address(word, address), shown)
 }
 
-/// The same for a Thumb halfword; that of a lone call half shows none.
+/// The same for a Thumb halfword, of which none is refused; the line of a lone call half shows no address.
 #[unsafe(no_mangle)]
 pub extern "C" fn silk_address_thumb(word: u16, address: u32, shown: &mut u32) -> u32
     ensures { address_numbers (thumb_address address word) ≡ (result, shown.new) }
