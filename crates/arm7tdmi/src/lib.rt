@@ -31,7 +31,9 @@ pub fn put_reg(out: &mut Writer<'_>, reg: u32)
 {
     if reg < 16 {
         put_letters(out, b"r0r1r2r3r4r5r6r7r8r9r1fpipsplrpc", reg);
-        out.put_if(reg == 10, b'0');
+        if reg == 10 {
+            out.put_byte(b'0');
+        }
     }
 }
 

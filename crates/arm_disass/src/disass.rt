@@ -17,29 +17,35 @@ use lines::{
 };
 use text::put::Writer;
 
-// Inlined, as are the shifts of an operand: a print is quicker so.
+// The name of an opcode. It is looked up, and not put by a `match` of its own: a jump on a random word's opcode is guessed wrong.
+fn op_name(op: AluOpCode) -> &'static [u8; 3]
+    ensures { result.now ≡ op_text op }
+{
+    match op {
+        AluOpCode::AND => b"and",
+        AluOpCode::EOR => b"eor",
+        AluOpCode::SUB => b"sub",
+        AluOpCode::RSB => b"rsb",
+        AluOpCode::ADD => b"add",
+        AluOpCode::ADC => b"adc",
+        AluOpCode::SBC => b"sbc",
+        AluOpCode::RSC => b"rsc",
+        AluOpCode::TST => b"tst",
+        AluOpCode::TEQ => b"teq",
+        AluOpCode::CMP => b"cmp",
+        AluOpCode::CMN => b"cmn",
+        AluOpCode::ORR => b"orr",
+        AluOpCode::MOV => b"mov",
+        AluOpCode::BIC => b"bic",
+        AluOpCode::MVN => b"mvn",
+    }
+}
+
 #[inline(always)]
 fn put_opcode(out: &mut Writer<'_>, op: AluOpCode)
     ensures { out.new ≡ puts out.old (op_text op) }
 {
-    match op {
-        AluOpCode::AND => out.put_text(b"and"),
-        AluOpCode::EOR => out.put_text(b"eor"),
-        AluOpCode::SUB => out.put_text(b"sub"),
-        AluOpCode::RSB => out.put_text(b"rsb"),
-        AluOpCode::ADD => out.put_text(b"add"),
-        AluOpCode::ADC => out.put_text(b"adc"),
-        AluOpCode::SBC => out.put_text(b"sbc"),
-        AluOpCode::RSC => out.put_text(b"rsc"),
-        AluOpCode::TST => out.put_text(b"tst"),
-        AluOpCode::TEQ => out.put_text(b"teq"),
-        AluOpCode::CMP => out.put_text(b"cmp"),
-        AluOpCode::CMN => out.put_text(b"cmn"),
-        AluOpCode::ORR => out.put_text(b"orr"),
-        AluOpCode::MOV => out.put_text(b"mov"),
-        AluOpCode::BIC => out.put_text(b"bic"),
-        AluOpCode::MVN => out.put_text(b"mvn"),
-    }
+    out.put_text(op_name(op));
 }
 
 fn put_halfword_type(out: &mut Writer<'_>, t: Option<ArmHalfwordTransferType>)
@@ -238,6 +244,7 @@ pub fn fmt_mull_mlal(out: &mut Writer<'_>, raw: u32)
 }
 
 // The halfword transfers.
+#[inline(always)]
 fn fmt_halfword(out: &mut Writer<'_>, form: Form, pc: u32, raw: u32, offset: BarrelShifterValue)
     ensures { out.new ≡ puts out.old (fmt_halfword form pc raw offset) }
 {

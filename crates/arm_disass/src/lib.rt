@@ -3,6 +3,7 @@
 
 ghost use Rattle.std.specs.Prelude.{◌≡◌};
 ghost use Rattle.text.specs.Puts.{puts};
+ghost use Rattle.text.specs.Wrote.{Wrote};
 ghost use Rattle.arm_disass.specs.Line.{line_of};
 
 use arm::ArmFormat;
@@ -17,6 +18,7 @@ use text::put::Writer;
 mod disass;
 
 // The line of a word of a kind, from the writer's place on. A `match` on the kind, as in the Rust; Thumb has other kinds, and one of its own.
+#[inline(always)]
 pub fn put_line(out: &mut Writer<'_>, form: Form, fmt: ArmFormat, pc: u32, raw: u32)
     ensures { out.new ≡ puts out.old (line_of form fmt pc raw) }
 {
@@ -41,4 +43,15 @@ pub fn put_line(out: &mut Writer<'_>, form: Form, fmt: ArmFormat, pc: u32, raw: 
         ArmFormat::MoveToFlags => fmt_msr_flags(out, form, raw),
         ArmFormat::Undefined => out.put_text(b"<Undefined>"),
     }
+}
+
+/// The same from a buffer's start on: the place behind the line. The writer is this function's own and starts at 0, so its place need not lie in memory.
+#[inline(never)]
+#[tactic(auto, unfolding(text::specs::Puts::puts))]
+pub fn put_line_first(buf: &mut [u8], form: Form, fmt: ArmFormat, pc: u32, raw: u32) -> usize
+    ensures { Wrote buf.old 0 (line_of form fmt pc raw) buf.new result }
+{
+    let mut out = Writer { bytes: buf, at: 0 };
+    put_line(&mut out, form, fmt, pc, raw);
+    out.at
 }

@@ -3,6 +3,7 @@
 
 ghost use Rattle.std.specs.Prelude.{◌≡◌};
 ghost use Rattle.text.specs.Puts.{puts};
+ghost use Rattle.text.specs.Wrote.{Wrote};
 ghost use Rattle.arm_operand.specs.Operand.{shift_text, is_lsl0, places_text, amount_text, by_amount, by_register, shift_by, shifted_register, immediate, decoded_text, fmt_operand2, bench_offset, magnitude, sheet_offset, immediate_offset, sign_text, signed_register, offset_text, indexed, value_comment, comment, fmt_rn_offset, rd_text, flag_text, flags, flags_comment, added_register};
 
 use arm::pc_relative;
@@ -14,17 +15,23 @@ use arm7tdmi::{Form, put_reg};
 use lines::{put_address, put_either, put_mark, put_reg_at};
 use text::put::Writer;
 
-// Inlined, as is a shifted register: a print is quicker so.
+// The name of a shift, looked up as an opcode's is.
+fn shift_name(op: BarrelShiftOpCode) -> &'static [u8; 3]
+    ensures { result.now ≡ shift_text op }
+{
+    match op {
+        BarrelShiftOpCode::LSL => b"lsl",
+        BarrelShiftOpCode::LSR => b"lsr",
+        BarrelShiftOpCode::ASR => b"asr",
+        BarrelShiftOpCode::ROR => b"ror",
+    }
+}
+
 #[inline(always)]
 fn put_shift(out: &mut Writer<'_>, op: BarrelShiftOpCode)
     ensures { out.new ≡ puts out.old (shift_text op) }
 {
-    match op {
-        BarrelShiftOpCode::LSL => out.put_text(b"lsl"),
-        BarrelShiftOpCode::LSR => out.put_text(b"lsr"),
-        BarrelShiftOpCode::ASR => out.put_text(b"asr"),
-        BarrelShiftOpCode::ROR => out.put_text(b"ror"),
-    }
+    out.put_text(shift_name(op));
 }
 
 // Whether a shift is LSL #0; the Rust's function of this name answers the opposite.
@@ -78,15 +85,35 @@ fn put_shift_by(out: &mut Writer<'_>, form: Form, op: BarrelShiftOpCode, by: Shi
     }
 }
 
-// A register and how it is shifted.
+// A register and how it is shifted, into a buffer from a place on: the place behind them. It takes no writer, as `fmt_rn_offset_at`: one that is lent on lies in
+// memory, and each byte that is put loads and stores its place there.
+#[tactic(auto, unfolding(text::specs::Puts::puts))]
+#[inline(never)]
+fn put_shifted_register_at(buf: &mut [u8], at: usize, form: Form, s: ShiftedRegister) -> usize
+    ensures { Wrote buf.old at (shifted_register form s) buf.new result }
+{
+    let mut out = Writer { bytes: buf, at };
+    put_shifted_register_to(&mut out, form, s);
+    out.at
+}
+
 #[inline(always)]
-fn put_shifted_register(out: &mut Writer<'_>, form: Form, s: ShiftedRegister)
+fn put_shifted_register_to(out: &mut Writer<'_>, form: Form, s: ShiftedRegister)
     ensures { out.new ≡ puts out.old (shifted_register form s) }
 {
     put_reg(out, s.reg);
     put_shift_by(out, form, s.bs_op, s.shift_by);
 }
 
+#[tactic(auto, unfolding(text::specs::Puts::puts))]
+#[inline(always)]
+fn put_shifted_register(out: &mut Writer<'_>, form: Form, s: ShiftedRegister)
+    ensures { out.new ≡ puts out.old (shifted_register form s) }
+{
+    out.at = put_shifted_register_at(out.bytes, out.at, form, s);
+}
+
+#[inline(always)]
 fn put_immediate(out: &mut Writer<'_>, v: u32)
     ensures { out.new ≡ puts out.old (immediate v) }
 {
@@ -96,6 +123,7 @@ fn put_immediate(out: &mut Writer<'_>, v: u32)
     out.put_0x(1, v);
 }
 
+#[inline(always)]
 fn put_decoded(out: &mut Writer<'_>, d: Option<u32>)
     ensures { out.new ≡ puts out.old (decoded_text d) }
 {
@@ -105,6 +133,7 @@ fn put_decoded(out: &mut Writer<'_>, d: Option<u32>)
 }
 
 // Operand 2. The Rust panics on an immediate that is not rotated, which operand 2 never is.
+#[inline(always)]
 pub fn fmt_operand2(out: &mut Writer<'_>, form: Form, operand: BarrelShifterValue)
     ensures { out.new ≡ puts out.old (fmt_operand2 form operand) }
 {
@@ -117,6 +146,7 @@ pub fn fmt_operand2(out: &mut Writer<'_>, form: Form, operand: BarrelShifterValu
     }
 }
 
+#[inline(always)]
 fn put_bench_offset(out: &mut Writer<'_>, v: u32)
     ensures { out.new ≡ puts out.old (bench_offset v) }
 {
@@ -125,6 +155,7 @@ fn put_bench_offset(out: &mut Writer<'_>, v: u32)
 }
 
 // S4: with U clear, a minus sign and the magnitude.
+#[inline(always)]
 fn put_sheet_offset(out: &mut Writer<'_>, raw: u32, v: u32)
     ensures { out.new ≡ puts out.old (sheet_offset raw v) }
 {
@@ -143,6 +174,7 @@ fn magnitude(v: u32) -> u32
     v.wrapping_neg()
 }
 
+#[inline(always)]
 fn put_immediate_offset(out: &mut Writer<'_>, form: Form, raw: u32, v: u32)
     ensures { out.new ≡ puts out.old (immediate_offset form raw v) }
 {
@@ -161,6 +193,7 @@ fn put_sign(out: &mut Writer<'_>, added: Option<bool>)
     }
 }
 
+#[inline(always)]
 fn put_signed_register(out: &mut Writer<'_>, form: Form, s: ShiftedRegister)
     ensures { out.new ≡ puts out.old (signed_register form s) }
 {
@@ -168,6 +201,7 @@ fn put_signed_register(out: &mut Writer<'_>, form: Form, s: ShiftedRegister)
     put_shifted_register(out, form, s);
 }
 
+#[inline(always)]
 fn put_offset(out: &mut Writer<'_>, form: Form, raw: u32, offset: BarrelShifterValue)
     ensures { out.new ≡ puts out.old (offset_text form raw offset) }
 {
@@ -179,6 +213,7 @@ fn put_offset(out: &mut Writer<'_>, form: Form, raw: u32, offset: BarrelShifterV
 }
 
 // The offset before the bracket closes, with the mark of write-back; or behind it.
+#[inline(always)]
 fn put_indexed(out: &mut Writer<'_>, form: Form, raw: u32, offset: BarrelShifterValue)
     ensures { out.new ≡ puts out.old (indexed form raw offset) }
 {
@@ -194,6 +229,7 @@ fn put_indexed(out: &mut Writer<'_>, form: Form, raw: u32, offset: BarrelShifter
 }
 
 // What an immediate offset comes to: with pc as base an address, else the offset itself.
+#[inline(always)]
 fn put_value(out: &mut Writer<'_>, form: Form, pc: u32, raw: u32, offset: u32)
     ensures { out.new ≡ puts out.old (value_comment form pc raw offset) }
 {
@@ -205,6 +241,7 @@ fn put_value(out: &mut Writer<'_>, form: Form, pc: u32, raw: u32, offset: u32)
     }
 }
 
+#[inline(always)]
 fn put_comment(out: &mut Writer<'_>, form: Form, pc: u32, raw: u32, offset: BarrelShifterValue)
     ensures { out.new ≡ puts out.old (comment form pc raw offset) }
 {
@@ -215,7 +252,36 @@ fn put_comment(out: &mut Writer<'_>, form: Form, pc: u32, raw: u32, offset: Barr
     }
 }
 
+#[inline(always)]
+fn put_rn_offset(out: &mut Writer<'_>, form: Form, pc: u32, raw: u32, offset: BarrelShifterValue)
+    ensures { out.new ≡ puts out.old (fmt_rn_offset form pc raw offset) }
+{
+    out.put_byte(b'[');
+    put_reg_at(out, raw, 16, 20);
+    put_indexed(out, form, raw, offset);
+    put_comment(out, form, pc, raw, offset);
+}
+
+#[tactic(auto, unfolding(text::specs::Puts::puts))]
+#[inline(never)]
+fn fmt_rn_offset_at(
+    buf: &mut [u8],
+    at: usize,
+    form: Form,
+    pc: u32,
+    raw: u32,
+    offset: BarrelShifterValue,
+) -> usize
+    ensures { Wrote buf.old at (fmt_rn_offset form pc raw offset) buf.new result }
+{
+    let mut out = Writer { bytes: buf, at };
+    put_rn_offset(&mut out, form, pc, raw, offset);
+    out.at
+}
+
 // A base register with an offset.
+#[tactic(auto, unfolding(text::specs::Puts::puts))]
+#[inline(always)]
 pub fn fmt_rn_offset(
     out: &mut Writer<'_>,
     form: Form,
@@ -225,13 +291,11 @@ pub fn fmt_rn_offset(
 )
     ensures { out.new ≡ puts out.old (fmt_rn_offset form pc raw offset) }
 {
-    out.put_byte(b'[');
-    put_reg_at(out, raw, 16, 20);
-    put_indexed(out, form, raw, offset);
-    put_comment(out, form, pc, raw, offset);
+    out.at = fmt_rn_offset_at(out.bytes, out.at, form, pc, raw, offset);
 }
 
 // S1: the sheet takes Rd from bits 15-12, the bench from 19-16.
+#[inline(always)]
 pub fn put_rd(out: &mut Writer<'_>, form: Form, raw: u32)
     ensures { out.new ≡ puts out.old (rd_text form raw) }
 {

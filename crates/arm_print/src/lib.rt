@@ -8,7 +8,7 @@ ghost use Rattle.arm_disass.proofs.Lengths.{line_within};
 ghost use Rattle.arm_print.specs.Print.{prints_cond, is_halfword, is_test_opcode, lacks_cond, lacks_type, lacks_flags, answer_of, arm_line};
 
 use arm::{ArmFormat, arm_format};
-use arm_disass::put_line;
+use arm_disass::{put_line, put_line_first};
 use arm7tdmi::Form;
 use arm7tdmi::bit::{bit, bit_range};
 use lines::{Line, print_line};
@@ -29,6 +29,10 @@ impl Line for ArmLine {
 
     fn put(&self, out: &mut Writer<'_>) {
         put_line(out, self.form, self.fmt, self.pc, self.raw);
+    }
+
+    fn put_first(&self, buf: &mut [u8]) -> usize {
+        put_line_first(buf, self.form, self.fmt, self.pc, self.raw)
     }
 
     ghost short = { λ w. (line_within w.form w.fmt w.pc w.raw).most };
@@ -107,6 +111,7 @@ fn print_format(w: ArmLine, buf: &mut [u8]) -> Result<usize, Refusal>
 
 // Prints the line of a word at an address into a buffer: its length.
 #[tactic(auto, unfolding(crate::specs::Print::arm_line))]
+#[inline(always)]
 pub fn print_arm(form: Form, raw: u32, pc: u32, buf: &mut [u8]) -> Result<usize, Refusal>
     ensures { printed (arm_line form pc raw) buf.old ≡ (result, buf.new) }
 {

@@ -1,7 +1,7 @@
 // An image of words: its bytes, its Thumb stretches, which set holds at a place, and what is refused.
 #![tactic(auto)]
 
-ghost use Rattle.std.specs.Prelude.{ℕ, ◌≡◌, ◌+◌, ◌/◌, ◌<◌, ◌≤◌, ◌&&◌, length, nat_lt, slice_get, slice_index, OnOk};
+ghost use Rattle.std.specs.Prelude.{◌≡◌, ◌+◌, ◌/◌, ◌<◌, ◌≤◌, ◌&&◌, drop, length, nat_lt, slice_get, slice_index, OnOk};
 ghost use Rattle.image.specs.Bytes.{half, word};
 ghost use Rattle.image.specs.Stretches.{pair_at, pairs, end, left, first_left, set_at};
 ghost use Rattle.image.specs.Refusal.{unit, wrong_image, end_of, wrong_pair, wrong_pairs, wrong_list, wrong_place, refusal, refusal_at};
@@ -55,31 +55,46 @@ impl Stretch {
     }
 }
 
-// The bytes from a place on; those past the end count as 0. Where there are enough they are read at once.
-fn bytes_at<const N: usize>(s: &[u8], at: usize) -> [u8; N]
-    ensures { (k : ℕ) → k < N → slice_index result k ≡ slice_index s.now (at + k) }
+// The bytes from a place on.
+fn bytes_from(s: &[u8], at: usize) -> &[u8]
+    ensures { result.now ≡ drop at s.now }
 {
-    let rest = s.get(at..).unwrap_or(&[]);
-    if let Some((bytes, _)) = rest.split_first_chunk() {
-        return *bytes;
-    }
-    let mut bytes = [0; N];
-    bytes[..rest.len()].copy_from_slice(rest);
-    bytes
+    s.get(at..).unwrap_or(&[])
 }
 
-// The halfword at a place of some bytes; those past the end count as 0.
+// Byte k of some bytes; one past the end counts as 0.
+fn byte_or_zero(s: &[u8], k: usize) -> u8
+    ensures { result ≡ slice_index s.now k }
+{
+    s.get(k).copied().unwrap_or(0)
+}
+
+// The halfword at a place of some bytes; those past the end count as 0. Where there are enough they are read at once; else one by one, as a copy of so few would
+// make the library need C's `memcpy`.
 pub fn half_at(s: &[u8], at: usize) -> u16
     ensures { result ≡ half s.now at }
 {
-    u16::from_le_bytes(bytes_at(s, at))
+    let rest = bytes_from(s, at);
+    if let Some((bytes, _)) = rest.split_first_chunk() {
+        return u16::from_le_bytes(*bytes);
+    }
+    u16::from_le_bytes([byte_or_zero(rest, 0), byte_or_zero(rest, 1)])
 }
 
 // The word.
 pub fn word_at(s: &[u8], at: usize) -> u32
     ensures { result ≡ word s.now at }
 {
-    u32::from_le_bytes(bytes_at(s, at))
+    let rest = bytes_from(s, at);
+    if let Some((bytes, _)) = rest.split_first_chunk() {
+        return u32::from_le_bytes(*bytes);
+    }
+    u32::from_le_bytes([
+        byte_or_zero(rest, 0),
+        byte_or_zero(rest, 1),
+        byte_or_zero(rest, 2),
+        byte_or_zero(rest, 3),
+    ])
 }
 
 // An image that is lent: its bytes, its Thumb stretches as pairs of offset and length, of 32 bits each, and the address of its first byte. The pairs are

@@ -13,7 +13,7 @@ use arm7tdmi::bit::{bit, bit_range};
 use arm7tdmi::cond::put_cond;
 use arm7tdmi::{Form, put_reg};
 use refusal::Refusal;
-use text::put::Writer;
+use text::put::{Writer, put_text_at};
 
 // A word and the bits of it that are shown are parameters, as in the Rust's `bit_range(a..b)`: a struct of the three would be taken apart at once.
 
@@ -71,6 +71,7 @@ fn put_listed(out: &mut Writer<'_>, raw: u32, i: u32)
 
 // The registers below n of a list: clear bits are passed by, so that few branches are guessed wrong. The loop is a `while`, as std has no iterator over set
 // bits. The place of the next name is carried along and stands directly behind the last byte written (specs/Position).
+#[inline(always)]
 pub fn put_registers(out: &mut Writer<'_>, raw: u32, n: u32)
     ensures { out.new ≡ puts out.old (registers raw n) }
 {
@@ -85,25 +86,29 @@ pub fn put_registers(out: &mut Writer<'_>, raw: u32, n: u32)
 }
 
 // An address. S9: the sheet has eight digits, the bench as many as the number has.
-#[tactic(auto, unfolding(crate::specs::Address::address))]
+#[tactic(auto, using(text::proofs::Puts::written), unfolding(crate::specs::Address::address, text::specs::Digits::prefixed))]
+#[inline(always)]
 pub fn put_address(out: &mut Writer<'_>, form: Form, n: u32)
     ensures { out.new ≡ puts out.old (address form n) }
 {
     match form {
         Form::Bench => out.put_0x(1, n),
-        Form::Sheet => out.put_0x(8, n),
+        Form::Sheet => {
+            out.put_text(b"0x");
+            out.put_eight(n);
+        }
     }
 }
 
-// A line written elsewhere, into the lent buffer: its length.
-fn give_line(buf: &mut [u8], s: &[u8]) -> Result<usize, Refusal>
+/// A line written elsewhere, of any length, into the lent buffer: its length. Refused with 3 where the buffer is shorter, which keeps its bytes then.
+pub fn give_line(buf: &mut [u8], s: &[u8]) -> Result<usize, Refusal>
     ensures { printed (line s.now) buf.old ≡ (result, buf.new) }
 {
     let n = s.len();
     if buf.len() < n {
         return Err(Refusal::NoRoom);
     }
-    buf[..n].copy_from_slice(s);
+    put_text_at(buf, 0, s);
     Ok(n)
 }
 
@@ -117,17 +122,24 @@ pub trait Line {
     fn put(&self, out: &mut Writer<'_>)
         ensures { out.new ≡ puts out.old (shown self.now) };
 
+    /// From a buffer's start on, as far as there is room: the place behind the line. A line of many kinds has this in code of its own.
+    #[tactic(auto, unfolding(text::specs::Puts::puts))]
+    fn put_first(&self, buf: &mut [u8]) -> usize
+        ensures { Wrote buf.old 0 (shown self.now) buf.new result }
+    {
+        let mut out = Writer { bytes: buf, at: 0 };
+        self.put(&mut out);
+        out.at
+    }
+
     ghost short: { (x : Self) → length (shown x) ≤ 80 };
 }
 
 // A line from a buffer's start on, as far as there is room: the place behind it.
-#[tactic(auto, unfolding(text::specs::Puts::puts))]
 pub fn put_at_start<L: Line>(l: &L, buf: &mut [u8]) -> usize
     ensures { Wrote buf.old 0 (L.shown l.now) buf.new result }
 {
-    let mut out = Writer { bytes: buf, at: 0 };
-    l.put(&mut out);
-    out.at
+    l.put_first(buf)
 }
 
 // A line into a lent buffer: its length. A buffer with room for any line takes it straight; a shorter one gets it from a copy, if it fits.

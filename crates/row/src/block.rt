@@ -16,7 +16,7 @@ pub const ROOM: usize = 6 * (HELD + BLOCK);
 
 // The bytes that are held of a row that a block cut. There is no heap, so they stand in an array, with their number. Clauses see them as a list,
 // and callers see that list alone and not the invariant: `few` says below what it bounds.
-#[derive(Drop)]
+#[derive(Clone, Drop)]
 pub struct Begun {
     bytes: [u8; HELD],
     length: usize,
@@ -42,7 +42,7 @@ impl Begun {
     }
 
     // The bytes.
-    fn row(&self) -> &[u8]
+    pub fn row(&self) -> &[u8]
         ensures bytes { result.now ≡ self.now }
         ensures few { length self.now ≤ HELD }
     {

@@ -2,6 +2,7 @@
 ghost use Rattle.std.specs.Prelude.{◌≡◌, cond, [], ◌∷◌, ◌≤◌, ◌<◌, ◌+◌, ◌-◌, ◌/◌, ◌%◌, take, drop, leb};
 ghost use Rattle.text.specs.Digits.{digit, digits, hex, dec, prefixed};
 ghost use Rattle.text.specs.Puts.{puts};
+ghost use Rattle.text.specs.Wrote.{Wrote};
 
 // A lent buffer, and the place of the next byte in it: what `Formatter` and `write!` are in Rust. `Display` was tried: it says what is written only where `fmt`
 // answers Ok, so a print that cannot fail could not promise its line, and a line took 2.2 times as long.
@@ -13,6 +14,7 @@ pub struct Writer<'a> {
 
 impl<'a> Writer<'a> {
     // One byte.
+    #[inline(always)]
     pub fn put_byte(&mut self, b: u8)
         ensures { self.new ≡ puts self.old (b ∷ []) }
     {
@@ -24,6 +26,7 @@ impl<'a> Writer<'a> {
     }
 
     // A byte, if it is wanted. Its place is stored to in any case, so that no branch is to be guessed.
+    #[inline(always)]
     pub fn put_if(&mut self, wanted: bool, b: u8)
         ensures { self.new ≡ puts self.old (cond wanted (b ∷ []) []) }
     {
@@ -35,22 +38,9 @@ impl<'a> Writer<'a> {
         }
     }
 
-    // The bytes of a text: at once where there is room for all of them.
+    // The bytes of a text, one by one: most texts have two or three, and a copy of so few takes longer.
+    #[inline(always)]
     pub fn put_text(&mut self, s: &[u8])
-        ensures { self.new ≡ puts self.old s.now }
-    {
-        let at = self.at;
-        if has_room(self.bytes.len(), at, s.len()) {
-            self.bytes[at..at + s.len()].copy_from_slice(s);
-            self.at = at + s.len();
-        } else {
-            self.put_each(s);
-        }
-    }
-
-    // As many bytes of a text as there is room for. Not inlined, as few texts are cut.
-    #[inline(never)]
-    fn put_each(&mut self, s: &[u8])
         ensures { self.new ≡ puts self.old s.now }
     {
         for b in s {
@@ -58,36 +48,35 @@ impl<'a> Writer<'a> {
         }
     }
 
-    // The digits of a number in a base, at least w of them, at most k: from the last to the first into a scratch. Tried by a recursion, as the definition goes,
-    // which is plainer: a line with two numbers took twice as long.
-    fn put_digits<const BASE: u32>(&mut self, k: usize, w: u32, n: u32)
-        requires { (1 < BASE) × (BASE ≤ 16) × (k ≤ 10) }
-        ensures { self.new ≡ puts self.old (digits BASE k w n) }
-    {
-        let mut scratch = [0u8; 10];
-        let mut first = k;
-        let mut wide = w;
-        let mut rest = n;
-        for i in (0..k).rev() {
-            if rest as u64 + wide as u64 == 0 {
-                break;
-            }
-            scratch[i] = last_digit::<BASE>(rest);
-            wide = wide.saturating_sub(1);
-            rest /= BASE;
-            first = i;
-        }
-        self.put_text(&scratch[first..k]);
-    }
-
     // A number in lowercase hexadecimal, at least w digits.
+    #[inline(always)]
     pub fn put_hex(&mut self, w: u32, n: u32)
         ensures { self.new ≡ puts self.old (hex w n) }
     {
-        self.put_digits::<16>(8, w, n);
+        self.at = put_digits::<16>(self.bytes, self.at, 8, w, n);
+    }
+
+    // All eight digits of a number in hexadecimal, from the first to the last: no scratch is needed, and an address of the sheet has them.
+    #[inline(always)]
+    #[tactic(auto, using(crate::proofs::Digits::hex_eight))]
+    pub fn put_eight(&mut self, n: u32)
+        ensures { self.new ≡ puts self.old (hex 8 n) }
+    {
+        let digits = [
+            last_digit::<16>(n / 0x1000_0000),
+            last_digit::<16>(n / 0x100_0000),
+            last_digit::<16>(n / 0x10_0000),
+            last_digit::<16>(n / 0x1_0000),
+            last_digit::<16>(n / 0x1000),
+            last_digit::<16>(n / 0x100),
+            last_digit::<16>(n / 0x10),
+            last_digit::<16>(n),
+        ];
+        self.put_text(&digits);
     }
 
     // The same with `0x` before it.
+    #[inline(always)]
     pub fn put_0x(&mut self, w: u32, n: u32)
         ensures { self.new ≡ puts self.old (prefixed w n) }
     {
@@ -96,11 +85,46 @@ impl<'a> Writer<'a> {
     }
 
     // A number in decimal.
+    #[inline(always)]
     pub fn put_dec(&mut self, n: u32)
         ensures { self.new ≡ puts self.old (dec n) }
     {
-        self.put_digits::<10>(10, 1, n);
+        self.at = put_digits::<10>(self.bytes, self.at, 10, 1, n);
     }
+}
+
+/// The bytes of a text into a buffer from a place on, as far as there is room: the place behind them.
+#[tactic(auto, unfolding(crate::specs::Puts::puts))]
+pub fn put_text_at(buf: &mut [u8], at: usize, s: &[u8]) -> usize
+    ensures { Wrote buf.old at s.now buf.new result }
+{
+    let mut out = Writer { bytes: buf, at };
+    out.put_text(s);
+    out.at
+}
+
+// The digits of a number in a base, at least w of them, at most k, into a buffer from a place on: the place behind them. From the last to the first into a
+// scratch. It takes no writer: one that is lent on lies in memory, and each byte that is put loads and stores its place there. Tried by a recursion, as the
+// definition goes, which is plainer: a line with two numbers took twice as long.
+#[inline(never)]
+fn put_digits<const BASE: u32>(buf: &mut [u8], at: usize, k: usize, w: u32, n: u32) -> usize
+    requires { (1 < BASE) × (BASE ≤ 16) × (k ≤ 10) }
+    ensures { Wrote buf.old at (digits BASE k w n) buf.new result }
+{
+    let mut scratch = [0u8; 10];
+    let mut first = k;
+    let mut wide = w;
+    let mut rest = n;
+    for i in (0..k).rev() {
+        if rest as u64 + wide as u64 == 0 {
+            break;
+        }
+        scratch[i] = last_digit::<BASE>(rest);
+        wide = wide.saturating_sub(1);
+        rest /= BASE;
+        first = i;
+    }
+    put_text_at(buf, at, &scratch[first..k])
 }
 
 // Whether a buffer of a length has room for n bytes from a place on.

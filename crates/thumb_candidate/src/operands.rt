@@ -1,32 +1,53 @@
 // The candidate of a row.
-ghost use Rattle.std.specs.Prelude.{◌≡◌};
+ghost use Rattle.std.specs.Prelude.{◌≡◌, List, ℕ};
 ghost use Rattle.thumb_candidate.specs.Candidate.{candidate, operands, suits};
+ghost use Rattle.thumb_candidate.specs.Taken.{Named};
 
 use crate::fields::{
     add_sub, address, block, call, high, low, offset, shifted, sp, stack, three_low, transfer,
     wide, with_byte, with_number,
 };
-use crate::parts::Sought;
+use crate::parts::{Regs, Sought};
 use reading::parts::hexadecimal;
 use thumb::ThumbFormat;
 use thumb_mnemonic::Row;
 
-// Whether a kind may have printed a line with its mnemonic, by the registers that words 2 and 3 name. A `match` on the kind, here and below, so that each kind has
-// an answer of its own.
+/// Whether a kind may have printed a line with its mnemonic, by the registers that the line's words 2 and 3 name: the same for every line that names them.
 #[tactic(auto, unfolding(crate::specs::Candidate::suits))]
+pub fn suits_registers(kind: ThumbFormat, regs: Regs) -> bool
+    ensures { (l : List ℕ) → Named l regs.first regs.second regs.third → result ≡ suits kind l }
+{
+    let Regs { second, third, .. } = regs;
+    match kind {
+        ThumbFormat::AddSub => second < 8,
+        ThumbFormat::DataProcessImm => second == 16,
+        ThumbFormat::LdrPc => second == 15,
+        ThumbFormat::LdrStrRegOffset | ThumbFormat::LdrStrSHB => third < 8,
+        ThumbFormat::LdrStrImmOffset | ThumbFormat::LdrStrHalfWord => second < 8,
+        ThumbFormat::LdrStrSp => second == 13,
+        ThumbFormat::LoadAddress => 12 < second,
+        _ => true,
+    }
+}
+
+// The same of the line that is looked for.
 pub fn suits(kind: ThumbFormat, sought: &Sought) -> bool
     ensures { result ≡ suits kind sought.now.line.now }
 {
-    match kind {
-        ThumbFormat::AddSub => sought.second < 8,
-        ThumbFormat::DataProcessImm => sought.second == 16,
-        ThumbFormat::LdrPc => sought.second == 15,
-        ThumbFormat::LdrStrRegOffset | ThumbFormat::LdrStrSHB => sought.third < 8,
-        ThumbFormat::LdrStrImmOffset | ThumbFormat::LdrStrHalfWord => sought.second < 8,
-        ThumbFormat::LdrStrSp => sought.second == 13,
-        ThumbFormat::LoadAddress => 12 < sought.second,
-        _ => true,
-    }
+    let Sought {
+        first,
+        second,
+        third,
+        ..
+    } = *sought;
+    suits_registers(
+        kind,
+        Regs {
+            first,
+            second,
+            third,
+        },
+    )
 }
 
 // What the operands of a line fill in, of a kind and the bits of its mnemonic.

@@ -6,6 +6,14 @@ use arm7tdmi::Form;
 use reading::parts::register;
 use text::read::next_word;
 
+/// The registers that words 1, 2 and 3 of a line name, or 16.
+#[derive(Clone, Copy, Debug, PartialEq, Eq)]
+pub struct Regs {
+    pub first: u8,
+    pub second: u8,
+    pub third: u8,
+}
+
 // What is looked for: a line, in a form, at an address; the line from its words 1, 2 and 3 on, and the registers that these name, or 16.
 #[derive(Clone, Copy, Debug, PartialEq, Eq)]
 pub struct Sought<'a> {

@@ -3,6 +3,7 @@
 
 ghost use Rattle.std.specs.Prelude.{◌≡◌};
 ghost use Rattle.text.specs.Puts.{puts};
+ghost use Rattle.text.specs.Wrote.{Wrote};
 ghost use Rattle.thumb_disass.specs.Line.{line_of};
 
 use arm7tdmi::Form;
@@ -21,6 +22,7 @@ mod disass;
 mod operation;
 
 // The line of a word of a kind, from the writer's place on. A `match` on the kind, as in the Rust; ARM has other kinds, and one of its own.
+#[inline(always)]
 pub fn put_line(out: &mut Writer<'_>, form: Form, fmt: ThumbFormat, pc: u32, raw: u32)
     ensures { out.new ≡ puts out.old (line_of form fmt pc raw) }
 {
@@ -46,4 +48,15 @@ pub fn put_line(out: &mut Writer<'_>, form: Form, fmt: ThumbFormat, pc: u32, raw
         ThumbFormat::BranchLongWithLink => fmt_thumb_branch_long_with_link(out, raw),
         ThumbFormat::Undefined => out.put_text(b"<Undefined>"),
     }
+}
+
+/// The same from a buffer's start on: the place behind the line. The writer is this function's own and starts at 0, so its place need not lie in memory.
+#[inline(never)]
+#[tactic(auto, unfolding(text::specs::Puts::puts))]
+pub fn put_line_first(buf: &mut [u8], form: Form, fmt: ThumbFormat, pc: u32, raw: u32) -> usize
+    ensures { Wrote buf.old 0 (line_of form fmt pc raw) buf.new result }
+{
+    let mut out = Writer { bytes: buf, at: 0 };
+    put_line(&mut out, form, fmt, pc, raw);
+    out.at
 }

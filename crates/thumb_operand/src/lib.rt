@@ -39,6 +39,7 @@ fn src_reg(raw: u32) -> u32
     rs(raw)
 }
 
+#[inline(always)]
 fn put_dst_and_src(out: &mut Writer<'_>, form: Form, raw: u32)
     ensures { out.new ≡ puts out.old (dst_and_src form raw) }
 {

@@ -12,7 +12,7 @@ use lines::{Line, print_line};
 use refusal::Refusal;
 use text::put::Writer;
 use thumb::ThumbFormat;
-use thumb_disass::put_line;
+use thumb_disass::{put_line, put_line_first};
 use thumb_top::word_kind;
 
 // The line of a word of a kind at an address, as `arm_print` has one of ARM's.
@@ -29,6 +29,10 @@ impl Line for ThumbLine {
 
     fn put(&self, out: &mut Writer<'_>) {
         put_line(out, self.form, self.fmt, self.pc, self.raw);
+    }
+
+    fn put_first(&self, buf: &mut [u8]) -> usize {
+        put_line_first(buf, self.form, self.fmt, self.pc, self.raw)
     }
 
     ghost short = { λ w. (line_within w.form w.fmt w.pc w.raw).most };

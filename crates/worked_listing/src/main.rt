@@ -20,7 +20,7 @@ use std::io;
 use step_offsets::{MOST_ADDRESSES, NO_OFFSET, step_offsets};
 use steps::{Listed, list_step};
 use text::put::{Writer, part};
-use text::read::{first_word, next_word, read_number};
+use text::read::{first_word, has, next_word, read_number};
 use worst_run::worst_run;
 
 // Room for the longest image of the cases, and for what a case shows.
@@ -33,7 +33,7 @@ const TABLE: usize = 16384;
 // Room for one address more than are answered.
 const ADDRESSES: usize = MOST_ADDRESSES + 1;
 
-// A row of the table, by its first word.
+// A row of the table, by its first word: a patch by a p in it and a resumed listing by an r, as no number in hexadecimal has them.
 #[derive(Clone, Copy, Debug, PartialEq, Eq)]
 enum Row<'a> {
     // the base and the place, how many bytes are lent, how often the bytes of the image are repeated, the digits of these, and those of the stretches
@@ -66,13 +66,13 @@ impl<'a> Row<'a> {
         let rest = next_word(row);
         let place = read_number::<16>(first_word(rest)) as usize;
         match first_word(row) {
-            b"patch" => Row::Patch {
+            b"find" => Row::Find { addresses: rest },
+            b"worst" => Row::Worst,
+            word if has(word, b'p') => Row::Patch {
                 at: place,
                 line: part(row, 15, row.len()),
             },
-            b"resume" => Row::Resume { place },
-            b"find" => Row::Find { addresses: rest },
-            b"worst" => Row::Worst,
+            word if has(word, b'r') => Row::Resume { place },
             base => Row::listing(base, place, next_word(rest)),
         }
     }
@@ -92,13 +92,18 @@ impl<'a> Row<'a> {
     }
 }
 
-// Writes the bytes that digits say to the start of a buffer, so often, or nothing for `none`, and answers how many there are then.
+// Writes the bytes that digits say to the start of a buffer, so often, as far as there is room, and answers how many there are then. There are none for `none`,
+// which has an n, as no digits have.
 fn fill(buf: &mut [u8], digits: &[u8], times: usize) -> usize {
+    let size = buf.len();
     let mut out = Writer { bytes: buf, at: 0 };
-    if digits == b"none".as_slice() {
+    if digits.len() < 2 || has(digits, b'n') {
         return 0;
     }
     for _ in 0..times {
+        if size <= out.at {
+            break;
+        }
         for pair in digits.chunks_exact(2) {
             out.put_byte((read_number::<16>(pair) % 256) as u8);
         }

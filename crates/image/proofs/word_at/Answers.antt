@@ -1,6 +1,18 @@
 -- `image::word_at` meets its contract. Assumes nothing.
-use Rattle.image.proofs.Bytes.{word_of}
+use Rattle.std.proofs.Common.{drop, ◌∙◌}
+use Rattle.std.proofs.lemmas.List.{get_or-drop, get_or-take}
+use Rattle.image.proofs.Bytes.{word_here, word_of}
 use Rattle.image.proofs.word_at.Goals as goal
 
+pub returns-in-Some : goal.returns-in-Some
+returns-in-Some c =
+    let s = c.args.s.now in
+    let at = c.args.at in
+    word_of s c.in-Some.bytes.now at c.from_le_bytes.result c.from_le_bytes.ensures
+    (λ k h. rw (c.in-Some.ensures.cases.0, c.bytes_from-rest.ensures) (get_or-take 4 (drop at s) k 0 h ∙ get_or-drop at s k 0))
+
 pub returns : goal.returns
-returns c = word_of c.args.s.now c.bytes_at.result c.args.at c.from_le_bytes.result c.from_le_bytes.ensures c.bytes_at.ensures
+returns c =
+    word_here c.args.s.now c.bytes_from-rest.result.now c.args.at c.from_le_bytes-2.result c.bytes_from-rest.ensures
+    c.byte_or_zero.result c.byte_or_zero-2.result c.byte_or_zero-3.result c.byte_or_zero-4.result
+    c.byte_or_zero.ensures c.byte_or_zero-2.ensures c.byte_or_zero-3.ensures c.byte_or_zero-4.ensures c.from_le_bytes-2.ensures

@@ -1,11 +1,12 @@
 -- `text::put::Writer::put_text` meets its contract. Assumes nothing.
-use Rattle.std.proofs.Common.{◌≡◌, ◌∙◌, ◌+◌, ◌-◌, ◌≤◌, length, leb-true, sym, arith}
-use Rattle.text.proofs.Puts.{puts_placed}
+use Rattle.std.proofs.Common.{arith, length, ◌<◌}
+use Rattle.text.proofs.Puts.{puts_append}
+use Rattle.text.proofs.Wrote.{take_more}
 use Rattle.text.proofs.put.Writer.put_text.Goals as goal
 
-pub returns-then-has_room : goal.returns-then-has_room
-returns-then-has_room c =
-    let a = c.args in
-    let h : a.self.now.at + length a.s.now ≤ length a.self.now.bytes.now = leb-true _ _ (sym c.has_room.ensures ∙ c.if-has_room.true) in
-    let e : a.self.now.at + length a.s.now - a.self.now.at ≡ length a.s.now = omega arith in
-    rw (e, c.copy_from_slice.ensures.after) (puts_placed a.self.now a.s.now h)
+pub loop-b-preserved : goal.loop-b-preserved
+loop-b-preserved c =
+    let i = c.loop-b.b-index in
+    let s = c.args.s.now in
+    let h : i < length s = omega arith in
+    rw (take_more s i h, puts_append, ← c.loop-b.invariant) c.put_byte.ensures

@@ -1,16 +1,16 @@
--- `text::put::Writer::put_digits` meets its contract. Assumes nothing.
+-- `text::put::put_digits` meets its contract. Assumes nothing.
 use Rattle.std.proofs.Common.{◌≡◌, ◌∙◌, ◌-◌, ◌++◌, take, drop, refl, arith, append-nil, rules}
 use lib.ListN.{length-set}
 use Rattle.text.proofs.Digits.{scratch_done, scratch_none, scratch_step}
 use Rattle.text.specs.Digits.{digits}
-use Rattle.text.proofs.put.Writer.put_digits.Goals as goal
-use Rattle.text.proofs.put.Writer.put_digits.Goals.{else-loop-i-test, then-loop-i-test+then-rest-wide-eq0}
+use Rattle.text.proofs.put.put_digits.Goals as goal
+use Rattle.text.proofs.put.put_digits.Goals.{else-loop-i-test, then-loop-i-test+then-rest-wide-eq0}
 
 pub loop-i-init : goal.loop-i-init
 loop-i-init g c =
     let a = c.args in
     let z : a.k - a.k ≡ 0 = omega arith in
-    (refl, omega arith, search rules, refl, rw (z, append-nil))
+    (refl, omega arith, search rules, rw (z, append-nil))
 
 pub loop-i-preserved : goal.loop-i-preserved
 loop-i-preserved g c =
@@ -21,8 +21,7 @@ loop-i-preserved g c =
       refl,
       omega arith,
       simp length-set (omega arith),
-      l.invariant.3,
-      rw (c.saturating_sub-wide.ensures, c.last_digit.ensures) (l.invariant.4 ∙ rw l.invariant.0 s),
+      rw (c.saturating_sub-wide.ensures, c.last_digit.ensures) (l.invariant.3 ∙ rw l.invariant.0 s),
     )
 
 pub returns : goal.returns
@@ -34,4 +33,4 @@ returns g c =
       | else-loop-i-test w ↦ scratch_done b a.k l.first l.wide l.rest l.scratch (omega arith)
       | then-loop-i-test+then-rest-wide-eq0 w ↦ scratch_none b a.k l.first l.wide l.rest l.scratch w.if-rest-wide-eq0.true
     ] in
-    rw (l.invariant.4, e, ← l.invariant.3) c.put_text.ensures
+    rw (l.invariant.3, e) c.put_text_at.ensures
