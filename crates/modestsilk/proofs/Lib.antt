@@ -1,1 +1,2 @@
 pub mod Demand
+pub mod Written

@@ -235,12 +235,15 @@ pub extern "C" fn silk_patch(
     refusal_number(patch(image, stretches, base, offset as usize, line).err())
 }
 
-// Writes values to the start of a lent list of numbers, as far as there is room.
+// Writes values to the start of a lent list of numbers, as far as there is room: one by one, as a copy would make the library need C's `memcpy`.
 fn write(values: &[u32], lent: &mut [u32])
     ensures { lent.new ≡ written values.now lent.old }
 {
-    let n = values.len().min(lent.len());
-    lent[..n].copy_from_slice(&values[..n]);
+    for i in 0..values.len() {
+        if i < lent.len() {
+            lent[i] = values[i];
+        }
+    }
 }
 
 /// For each address the offset of the step, in a listing of the image from its start, that it lies in: 64 numbers, written as far as there is room. The answer
