@@ -20,7 +20,7 @@ module _ (v l : List ℕ) (i : ℕ) (h : i < length v) where
       let a : take (length l) (take i v) ≡ take i v = take_all (length l) (take i v) (omega (so_many, g, arith)) in
       let b : take (length l) (take (i + 1) v) ≡ take (i + 1) v = take_all (length l) (take (i + 1) v) (omega (one_more, g, arith)) in
       let s : set (take i v ++ (get_or l i 0 ∷ drop (i + 1) l)) i x ≡ take i v ++ (x ∷ drop (i + 1) l) =
-          rw so_many at (set-append_seam (take i v) (get_or l i 0) (drop (i + 1) l) x) in
+      rw so_many at (set-append_seam (take i v) (get_or l i 0) (drop (i + 1) l) x) in
       rw (a, so_many, drop_more l i 0 g, b, one_more, take_more v i h, append_assoc (take i v) (x ∷ []) (drop (i + 1) l)) s
 
   -- and where there is none
@@ -30,5 +30,5 @@ module _ (v l : List ℕ) (i : ℕ) (h : i < length v) where
       let a : drop i l ≡ [] = drop_of_length-le l g in
       let b : drop (i + 1) l ≡ [] = drop_of_length-le l (omega (g, arith)) in
       let s : take (length l) (take (i + 1) v) ≡ take (length l) (take i v) =
-          rw (take_more v i h) (take-append-le (length l) (take i v) (x ∷ []) (omega (so_many, g, arith))) in
+      rw (take_more v i h) (take-append-le (length l) (take i v) (x ∷ []) (omega (so_many, g, arith))) in
       rw (so_many, one_more, a, b, s)
