@@ -41,7 +41,7 @@ impl Begun {
         }
     }
 
-    // The bytes.
+    /// The bytes that are held.
     pub fn row(&self) -> &[u8]
         ensures bytes { result.now ≡ self.now }
         ensures few { length self.now ≤ HELD }
