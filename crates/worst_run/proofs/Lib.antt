@@ -2,6 +2,7 @@ pub mod Invalid
 pub mod Runs
 pub mod Worst
 pub mod Rings
+pub mod Bytes
 pub mod Windows
 pub mod Bases
 pub mod Walked

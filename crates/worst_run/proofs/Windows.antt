@@ -1,12 +1,11 @@
 -- What is kept of the last steps, and the worst run among all so far. Assumes nothing.
-use Rattle.std.proofs.Common.{◌≡◌, ℕ, zero, suc, ◌+◌, ◌-◌, ◌%◌, ◌<◌, ◌≤◌, Bool, true, false, cond, ltb, leb, List, [], ◌∷◌, ◌++◌, length, get_or, set, take, drop, map, count_by, replicate, refl, sym, ap, ap₂, ◌∙◌, arith, ltb-true, ltb-false, leb-true, leb-false, append-nil, append_assoc, drop-drop, length-append, length-drop}
+use Rattle.std.proofs.Common.{◌≡◌, ℕ, zero, suc, ◌+◌, ◌-◌, ◌<◌, ◌≤◌, Bool, true, false, cond, ltb, leb, List, [], ◌∷◌, ◌++◌, length, take, drop, map, count_by, replicate, refl, sym, ap, ap₂, ◌∙◌, arith, ltb-true, ltb-false, leb-true, leb-false, append-nil, append_assoc, drop-drop, length-append, length-drop}
 use mir.Val.{bool_byte}
 use Rattle.std.proofs.lemmas.List.{drop-append-le, drop-replicate, drop_at, length-replicate, length_push, map_push}
 use Rattle.std.proofs.lemmas.List.Sums.{sum_by-append, sum_by-cons}
 use Rattle.common.proofs.Tests.{by_test}
 use Rattle.worst_run.specs.Worst.{blank, kept_offset, kept_run, or_worse, runs, worst_of}
 use Rattle.worst_run.specs.declared.window.Kept.{Kept}
-use Rattle.worst_run.proofs.Rings.{front, ring_from, turned}
 use Rattle.worst_run.proofs.Runs.{later, runs_few, runs_first, runs_more}
 use Rattle.worst_run.proofs.Worst.{keep, over, worst_more, worst_one}
 
@@ -27,6 +26,10 @@ count_push ks k = sum_by-append one ks (k ∷ []) ∙ ap (λ (m : ℕ). count ks
 pub as_one : (b : Bool) → bool_byte b ≡ cond b 1 0
 as_one true = refl
 as_one false = refl
+
+pub one_at_most : (b : Bool) → bool_byte b ≤ 1
+one_at_most true = omega arith
+one_at_most false = omega arith
 
 -- ---- the last n, behind blanks where there are fewer
 abbrev pub latest : ℕ → List Kept → List Kept
@@ -70,14 +73,13 @@ behind_blanks : (m : ℕ) (ks : List Kept) → kept_offset ks ≡ 0 → kept_run
 behind_blanks zero ks e = refl
 behind_blanks (suc m) ks e = ap₂ (λ (c at : ℕ). record { count = c; offset = at }) (blanks (suc m) ks) (sym e)
 
--- ---- kept in a ring, where a step takes the place of another
-module _ (n k : ℕ) (xs : List Kept) (y d : Kept) (long : length xs ≡ n) (h : k < n) where
-  pub counted : count (ring_from ((k + 1) % n) (set xs k y)) + one (get_or xs k d) ≡ count (ring_from k xs) + one y
-  counted =
-      let others = drop (k + 1) xs ++ take k xs in
-      let old = ap count (front n k xs y d long h) ∙ count_cons (get_or xs k d) others in
-      let new = ap count (turned n k xs y d long h ∙ ap (λ (l : List Kept). drop 1 l ++ y ∷ []) (front n k xs y d long h)) ∙ count_push others y in
-      omega arith
+-- ---- where a step takes the place of the first
+module _ (ks : List Kept) (first : Kept) (f : ks ≡ first ∷ drop 1 ks) where
+  count_first : count ks ≡ one first + count (drop 1 ks)
+  count_first = ap count f ∙ count_cons first (drop 1 ks)
+
+  pub counted : (k : Kept) → count (drop 1 ks ++ k ∷ []) + one first ≡ count ks + one k
+  counted k = omega (arith, count_first, count_push (drop 1 ks) k)
 
 -- ---- one step more
 -- a run that begins at 0 and grows is the worse for it
