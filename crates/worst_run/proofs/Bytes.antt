@@ -3,7 +3,8 @@ use Rattle.std.proofs.Common.{◌≡◌, ℕ, zero, suc, ◌+◌, ◌-◌, ◌/�
 use Rattle.std.proofs.lemmas.List.{length-set}
 use Rattle.std.proofs.lemmas.List.Sums.{fold-append}
 use Rattle.std.proofs.Math.Nat.{mod-lt}
-use Rattle.worst_run.specs.Worst.{blank, kept_at, kept_from, kept_ring, latest_offset, IsNear}
+use Rattle.worst_run.specs.Worst.{blank}
+use Rattle.worst_run.specs.Window.{kept_at, kept_from, kept_ring, latest_offset, IsNear}
 use Rattle.worst_run.specs.declared.window.Kept.{Kept}
 use Rattle.worst_run.proofs.Rings.{front, ring_from, turned}
 
@@ -49,7 +50,7 @@ unfolding kept_from
 from_push at [] b = refl
 from_push at (x ∷ bs) b = ap (λ (ks : List Kept). kept_at at x ∷ ks) (from_push (at + x / 2) bs b)
 
-pub latest_of_push : (at : ℕ) (bs : List ℕ) (b : ℕ) → latest_from at (bs ++ b ∷ []) ≡ latest_from at bs + b / 2
+latest_of_push : (at : ℕ) (bs : List ℕ) (b : ℕ) → latest_from at (bs ++ b ∷ []) ≡ latest_from at bs + b / 2
 latest_of_push at bs b = ap (fold (λ (_ : ℕ) (k : Kept). k.offset) at) (from_push at bs b) ∙ fold-append (λ (_ : ℕ) (k : Kept). k.offset) at (kept_from at bs) (kept_at (latest_from at bs) b ∷ [])
 
 module _ (n k at : ℕ) (xs : List ℕ) (long : length xs ≡ n) (h : k < n) where

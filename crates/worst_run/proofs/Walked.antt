@@ -10,7 +10,8 @@ use Rattle.steps.specs.declared.Span.{Span}
 use Rattle.steps.specs.declared.Span.TheVariants.{Word, Half, Pair}
 use Rattle.steps.specs.declared.walk.UnprintedStep.{UnprintedStep}
 use Rattle.steps.specs.declared.walk.Walk.{Walk}
-use Rattle.worst_run.specs.Worst.{blank, kept, kept_offset, latest_offset, IsNear, kept_run, or_worse, run_of, runs, worst_of}
+use Rattle.worst_run.specs.Worst.{blank, kept, kept_offset, kept_run, or_worse, run_of, runs, worst_of}
+use Rattle.worst_run.specs.Window.{latest_offset, IsNear}
 use Rattle.worst_run.specs.declared.Run.{Run}
 use Rattle.worst_run.specs.declared.window.Kept.{Kept}
 use Rattle.worst_run.proofs.Bases.{worst_kept}

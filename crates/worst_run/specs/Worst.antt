@@ -1,5 +1,5 @@
 -- The worst run of a listing. Assumes nothing.
-use Rattle.std.specs.Prelude.{ℕ, ◌+◌, ◌/◌, ◌%◌, ◌<◌, ◌≤◌, false, ◌==◌, cond, List, [], ◌∷◌, length, take, map, max, fold, count_by, find, unwrap_or, nat_lt, nat_le, Result, Ok, Err, ⊤}
+use Rattle.std.specs.Prelude.{ℕ, false, ◌==◌, cond, List, [], ◌∷◌, length, take, map, max, fold, count_by, find, unwrap_or, nat_lt, nat_le, Result, Ok, Err, ⊤}
 use Rattle.refusal.specs.Refusal.{number}
 use Rattle.refusal.specs.declared.Refusal.{Refusal}
 use Rattle.lines.specs.Answer.{is_invalid}
@@ -67,25 +67,3 @@ kept_run ks = record { count = count_by (λ k. k.invalid) ks; offset = kept_offs
 -- what stands in a window for a step before the first
 abbrev pub blank : Kept
 blank = record { invalid = false; offset = 0 }
-
--- where the latest of some kept steps begins; with none 0
-abbrev pub latest_offset : List Kept → ℕ
-latest_offset ks = fold (λ at k. k.offset) 0 ks
-
--- whether a step may come behind some: it begins where the latest of them does, or at most 127 bytes further on
-abbrev pub IsNear : List Kept → Kept → Type 0
-IsNear ks k = (latest_offset ks ≤ k.offset) × (k.offset < latest_offset ks + 128)
-
--- a kept step as a byte: twice the distance from where the step before it begins, and one more where it shows an instruction
-abbrev pub kept_at : ℕ → ℕ → Kept
-kept_at before b = record { invalid = b % 2 == 0; offset = before + b / 2 }
-
--- some kept steps, behind one that begins at an offset
-unfoldable pub kept_from : ℕ → List ℕ → List Kept
-kept_from before [] = []
-kept_from before (b ∷ bs) = kept_at before b ∷ kept_from (before + b / 2) bs
-
--- some, of which the first begins at an offset
-abbrev pub kept_ring : ℕ → List ℕ → List Kept
-kept_ring at [] = []
-kept_ring at (b ∷ bs) = record { invalid = b % 2 == 0; offset = at } ∷ kept_from at bs

@@ -1,7 +1,8 @@
 //! The last 256 steps of a walk, of which only what counts is kept.
 
 ghost use Rattle.std.specs.Prelude.{◌≡◌, ℕ, ◌+◌, ◌<◌, [], ◌∷◌, ◌++◌, drop, replicate};
-ghost use Rattle.worst_run.specs.Worst.{blank, kept_at, kept_run, IsNear};
+ghost use Rattle.worst_run.specs.Worst.{blank, kept_run};
+ghost use Rattle.worst_run.specs.Window.{kept_at, IsNear};
 
 use crate::{RUN, Run};
 use std::marker::Model;
@@ -29,7 +30,7 @@ pub struct Window {
 
 impl Model for Window {
     ghost use Rattle.std.specs.Prelude.{◌≡◌, ◌<◌, List, ◌++◌, count_by, drop, take};
-    ghost use Rattle.worst_run.specs.Worst.{kept_ring, latest_offset};
+    ghost use Rattle.worst_run.specs.Window.{kept_ring, latest_offset};
     ghost use Rattle.worst_run.specs.declared.window.Kept.{Kept};
 
     ghost Value = { List Kept };

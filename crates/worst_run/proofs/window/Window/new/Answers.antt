@@ -1,7 +1,8 @@
 -- `worst_run::window::Window::new` meets its contract. Assumes nothing.
 use Rattle.std.proofs.Common.{◌∷◌, List, ap, sym, ◌∙◌, append-nil, replicate, arith}
 use Rattle.std.proofs.lemmas.List.Folds.{sum_by-replicate}
-use Rattle.worst_run.specs.Worst.{blank, kept_ring, latest_offset}
+use Rattle.worst_run.specs.Worst.{blank}
+use Rattle.worst_run.specs.Window.{kept_ring, latest_offset}
 use Rattle.worst_run.specs.declared.window.Kept.{Kept}
 use Rattle.worst_run.proofs.Bytes.{from_blanks, latest_offset_blank}
 use Rattle.worst_run.proofs.Windows.{count, one}

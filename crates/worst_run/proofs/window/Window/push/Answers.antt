@@ -2,7 +2,7 @@
 use Rattle.std.proofs.Common.{◌+◌, drop, length, sym, ap, ◌∙◌, arith}
 use Rattle.std.proofs.lemmas.List.Sums.{count_by-le-length}
 use Rattle.std.proofs.Math.Nat.{mod-lt}
-use Rattle.worst_run.specs.Worst.{latest_offset}
+use Rattle.worst_run.specs.Window.{latest_offset}
 use Rattle.worst_run.proofs.Bytes.{first_within, latest_offset_push, length_is, next_is}
 use Rattle.worst_run.proofs.Windows.{as_one, count, counted, one_at_most}
 use Rattle.worst_run.proofs.window.Window.push.Goals as goal
